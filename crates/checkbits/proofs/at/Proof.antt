@@ -1,0 +1,19 @@
+-- `checkbits::at` meets its contract: the table is the definition tabulated, which antt computes, entry for entry.
+-- Assumes nothing.
+use Prim.Native.Nat.{_^_}
+use borrow.Author.Needs.{needs}
+use Rattle.line.specs.Bits.{bit}
+use Rattle.line.specs.Division.{headerBits, feed, divide, remainder, check}
+use Rattle.line.proofs.Table.{tabulated}
+use Rattle.checkbits.proofs.at.Statement.{statement}
+use Rattle.checkbits.proofs.at.Tie as tie
+
+array-read-result : tie.Need-array-read-result
+array-read-result c = search needs
+
+returns : tie.Need-returns
+unfolding check remainder divide feed bit
+returns c = tabulated (check headerBits) 0 (2 ^ headerBits) (c .args .word) (c .pre)
+
+pub at-spec : {M : Type 1} → statement M
+at-spec = tie.close (tie.spec array-read-result returns)

@@ -1,0 +1,20 @@
+-- `checkbits::header_check` meets its contract: the check of eleven bits looks at eleven bits alone.
+-- Assumes nothing.
+use mathlib.Core.Path.{_∙_}
+use borrow.Author.Needs.{needs}
+use Rattle.line.specs.Division.{headerBits}
+use Rattle.line.proofs.Division.{check-low}
+use Rattle.checkbits.proofs.header_check.Statement.{statement}
+use Rattle.checkbits.proofs.header_check.Tie as tie
+
+cast-at : tie.Need-cast-at
+cast-at c = search needs
+
+at-requires : tie.Need-at-requires
+at-requires c κs = search needs
+
+returns : tie.Need-returns
+returns c = c .at .ensures ∙ check-low headerBits _
+
+pub header-check-spec : {M : Type 1} → statement M
+header-check-spec = tie.close (tie.spec cast-at at-requires returns)

@@ -1,0 +1,10 @@
+pub mod Card
+pub mod Channels
+pub mod Codec
+pub mod Division
+pub mod Dress
+pub mod Locks
+pub mod Rest
+pub mod Table
+pub mod Unique
+pub mod Words

@@ -1,0 +1,112 @@
+-- The chain's own account: the same kinds, worked out from the master row and the slaves' memories, far slave first. It sees no
+-- answer and no bit that a slave sends.
+use mathlib.Core.Bool.{Bool, true, false, cond, _&&_, Bool·beq}
+use mathlib.Core.List.{List, [], _∷_}
+use mathlib.Core.Option.{Option, none, some}
+use Prim.Native.Nat.{ℕ, zero, suc, _+_, min}
+use lib.Dec.{ltb}
+use lib.ListN.{length, getElem?}
+use Rattle.line.specs.Limits.{headerColumns, lockLast, idCount}
+use Rattle.line.specs.Bits.{num, push}
+use Rattle.line.specs.Rest.{Timed, powerOn, rest, frame, Judged, still, ends, meant, judge}
+use Rattle.line.specs.Division.{dataBits, topBit, fits, byteOf}
+use Rattle.line.specs.Header.{Header, wrong, access, command, header}
+use Rattle.line.specs.Memory.{Memory, allows, holds}
+use Rattle.line.specs.Slave.{Slave, more}
+use Rattle.line.specs.Chain.{column, memories, switchedOn}
+use Rattle.line.specs.Entries.{Kind, Entry, entry, note}
+
+-- A byte's columns are counted down to 0, its last check bit.
+pub data Phase : Type 0 where
+  deaf : Phase
+  locks : (column so-far : ℕ) → Phase
+  head : (column so-far : ℕ) → Phase
+  askR : (id address : ℕ) → Phase
+  askW : (id address : ℕ) → (r : Bool) → Phase
+  byteS : (write : Bool) → (id address nth : ℕ) → Phase
+  carries : (write : Bool) → (id address nth left so-far : ℕ) → Phase
+  askP : (write good : Bool) → (id address nth : ℕ) → Phase
+
+pub record Told : Type 0 where
+  pub next : Phase
+  pub says : Option Entry
+
+abbrev pub go : Phase → Told
+go p = record { next = p; says = none }
+
+abbrev pub gives : Entry → Phase → Told
+gives e p = record { next = p; says = some e }
+
+-- Locks: "the far slave is ID 0, and slaves past the eighth have none": the ID's slave is the one at that place of the chain.
+abbrev pub slaveAt : List Memory → ℕ → Option Memory
+slaveAt ks id = getElem? ks id
+
+unfoldable pub headed : (c : ℕ) → Header → Told
+headed c wrong = gives (entry Kind.badhead c 0 0 0) deaf
+headed c (command ids cmd) = gives (entry Kind.command c cmd 0 ids) deaf
+headed c (access id address) = go (askR id address)
+
+-- absent: nobody holds the ID. refused: its right does not allow the access.
+unfoldable pub asked : (c : ℕ) → Option Memory → (id address : ℕ) → (w : Bool) → Told
+asked c none id address w = gives (entry Kind.absent c id address 0) deaf
+asked c (some k) id address w =
+    cond (allows k w address) (go (byteS w id address 1)) (gives (entry Kind.refused c id address (num w)) deaf)
+
+-- What stands at a register of a slave that may be there.
+abbrev pub heldAt : Option Memory → ℕ → ℕ
+heldAt none address = 0
+heldAt (some k) address = holds k address
+
+abbrev pub moreAt : Option Memory → (write : Bool) → (address nth : ℕ) → Bool
+moreAt none write address nth = false
+moreAt (some k) write address nth = more k write address nth
+
+unfoldable pub tell : (c : ℕ) → List Memory → Phase → (m : Bool) → Told
+tell c ks deaf m = go deaf
+tell c ks (locks column so-far) m =
+    cond (ltb column lockLast) (go (locks (column + 1) (push so-far m)))
+    (gives (entry Kind.lock c 0 0 (min (idCount + 1) (length ks))) (head (column + 1) (push so-far m)))
+tell c ks (head column so-far) m =
+    cond (ltb column headerColumns) (go (head (column + 1) (push so-far m))) (headed c (header (push so-far m)))
+tell c ks (askR id address) m = go (askW id address m)
+tell c ks (askW id address r) m =
+    cond (Bool·beq r m) (gives (entry Kind.pair c id address 0) deaf) (asked c (slaveAt ks id) id address m)
+tell c ks (byteS write id address nth) false = go deaf
+tell c ks (byteS write id address nth) true = go (carries write id address nth topBit 0)
+tell c ks (carries write id address nth (suc left) so-far) m = go (carries write id address nth left (push so-far m))
+tell c ks (carries false id address nth zero so-far) m =
+    gives (entry Kind.read c id address (heldAt (slaveAt ks id) address)) (askP false true id address nth)
+tell c ks (carries true id address nth zero so-far) m =
+    gives (entry (cond (fits dataBits (push so-far m)) Kind.written Kind.writebad) c id address (byteOf (push so-far m)))
+    (askP true (fits dataBits (push so-far m)) id address nth)
+tell c ks (askP write good id address nth) m =
+    cond (good && moreAt (slaveAt ks id) write address nth) (go (byteS write id (address + 1) (nth + 1)))
+    (gives (entry Kind.closed c id address 0) deaf)
+
+pub record Step : Type 0 where
+  pub state : Timed Phase
+  pub says : Option Entry
+
+abbrev pub told : ℕ → Told → Step
+told z t = record { state = frame z (t .next); says = t .says }
+
+abbrev pub stepped : (c : ℕ) → List Memory → Judged Phase → (m : Bool) → Step
+stepped c ks (still s) m = record { state = s; says = none }
+stepped c ks ends m = record { state = rest; says = some (entry Kind.end c 0 0 0) }
+stepped c ks (meant z p) m = told z (tell c ks p m)
+
+abbrev pub begun : Phase
+begun = locks 1 0
+
+unfoldable pub step : (c : ℕ) → List Memory → Timed Phase → (m : Bool) → Step
+step c ks s m = stepped c ks (judge begun s m) m
+
+-- The account along a chain: before each column it sees the memories as they stand.
+unfoldable pub along : List Slave → Timed Phase → (c : ℕ) → List Bool → List Entry
+along ss s c [] = []
+along ss s c (m ∷ ms) =
+    note (step c (memories ss) s m .says)
+    (along (column ss m .slaves) (step c (memories ss) s m .state) (suc c) ms)
+
+unfoldable pub account : List Memory → List Bool → List Entry
+account ks row = along (switchedOn ks) powerOn 0 row

@@ -1,0 +1,45 @@
+-- The chain: slaves in buffer order, far slave first; a column, a whole row, and a run from power-on.
+use mathlib.Core.Bool.{Bool, false}
+use mathlib.Core.List.{List, [], _∷_, map}
+use Rattle.line.specs.Rest.{powerOn}
+use Rattle.line.specs.Memory.{Memory}
+use Rattle.line.specs.Slave.{Slave, Step, slave, step}
+
+pub record Passed : Type 0 where
+  pub slaves : List Slave
+  pub answer : Bool
+
+abbrev pub behind : Slave → Passed → Passed
+behind s r = record { slaves = s ∷ r .slaves; answer = r .answer }
+
+-- Chain: the bit "goes slave by slave to the master".
+unfoldable pub pass : List Slave → (m b : Bool) → Passed
+pass [] m b = record { slaves = []; answer = b }
+pass (s ∷ ss) m b = let t : Step = step s m b in behind (t .slave) (pass ss m (t .sent))
+
+-- Chain: "In every column the bit enters at the far end as 0".
+abbrev pub column : List Slave → Bool → Passed
+column ss m = pass ss m false
+
+-- The answers to a master row, and the slaves after it.
+unfoldable pub answers : List Slave → List Bool → List Bool
+answers ss [] = []
+answers ss (m ∷ ms) = column ss m .answer ∷ answers (column ss m .slaves) ms
+
+unfoldable pub after : List Slave → List Bool → List Slave
+after ss [] = ss
+after ss (m ∷ ms) = after (column ss m .slaves) ms
+
+-- Rest: "At power-on nobody is at rest".
+unfoldable pub switchedOn : List Memory → List Slave
+switchedOn ks = map (λ k. slave k powerOn) ks
+
+abbrev pub memories : List Slave → List Memory
+memories ss = map (λ s. s .memory) ss
+
+-- A run: the answer row, and the memories it leaves.
+unfoldable pub answersFrom : List Memory → List Bool → List Bool
+answersFrom ks row = answers (switchedOn ks) row
+
+unfoldable pub memoriesAfter : List Memory → List Bool → List Memory
+memoriesAfter ks row = memories (after (switchedOn ks) row)

@@ -1,0 +1,25 @@
+-- The definitions: paper 01's sections Columns, Building and Entries, in the paper's order, each with the sentence it states.
+-- What is proved of them stands in proofs/; no definition here knows of any code, and none of them assumes anything.
+--
+-- One column goes through them so:
+--
+--   CDM bit ──► Rest (is it the fourteenth zero? is it S?) ──► a phase of Slave, Reader or Account
+--   0 ──► far slave ──► .. ──► near slave ──► CDS bit          Chain: every slave sees the CDM bit and its far neighbour's bit
+--   (CDM, CDS) ──► Reader ──► perhaps an Entry                 the list, from two rows alone
+--   (CDM, Memory of each slave) ──► Account ──► perhaps an Entry     the chain's own account, from no answer
+pub mod Limits
+pub mod Bits
+pub mod Rest
+pub mod Division
+pub mod Header
+pub mod Memory
+pub mod Slave
+pub mod Chain
+pub mod Building
+pub mod Entries
+pub mod Reader
+pub mod Account
+pub mod Replay
+pub mod Runs
+pub mod Channels
+pub mod Card

@@ -1,0 +1,38 @@
+-- The numbers of paper 01 that stand for themselves, each written once; every other file names them.
+use Prim.Native.Nat.{ℕ, _+_}
+
+-- Columns: "A row has 0 to 4,096 columns."
+abbrev pub columnLimit : ℕ
+columnLimit = 4096
+
+-- Numbers of refusal, 1: "more than 16 slaves".
+abbrev pub slaveLimit : ℕ
+slaveLimit = 16
+
+-- Columns, Rest: "Fourteen CDM zeros in a row end anything, at any place."
+abbrev pub restZeros : ℕ
+restZeros = 14
+
+-- Columns, Header: "Fifteen columns after S".
+abbrev pub headerColumns : ℕ
+headerColumns = 15
+
+-- Columns, Locks: "slaves past the eighth have none".
+abbrev pub idCount : ℕ
+idCount = 8
+
+-- Columns, Locks, the house rule for the place: the column after S that answers IDL0.
+abbrev pub lockFirst : ℕ
+lockFirst = 1
+
+-- Columns, Locks: the column after S that answers IDL8, eight columns on.
+abbrev pub lockLast : ℕ
+lockLast = lockFirst + idCount
+
+-- Columns: "A slave has 128 registers and one right for each".
+abbrev pub registerCount : ℕ
+registerCount = 128
+
+-- Columns, P: "fewer than 64 bytes have passed".
+abbrev pub byteLimit : ℕ
+byteLimit = 64

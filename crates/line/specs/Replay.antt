@@ -1,0 +1,40 @@
+-- Replay: a list's written bytes put back, in order, on starting registers; and what a read shows of it.
+use mathlib.Core.Path.{_≡_}
+use mathlib.Core.Bool.{Bool, cond}
+use mathlib.Core.List.{List, [], _∷_}
+use mathlib.Core.Option.{Option, none, some}
+use Prim.Native.Nat.{ℕ, zero, suc}
+use lib.Dec.{eqb}
+use lib.ListN.{getElem?}
+use Rattle.line.specs.Memory.{Memory, holds, stored}
+use Rattle.line.specs.Entries.{Kind, Entry, number}
+
+-- The memories with one of them changed at one address; a place past the chain changes nothing.
+unfoldable pub storedAt : List Memory → (id address value : ℕ) → List Memory
+storedAt [] id address value = []
+storedAt (k ∷ ks) zero address value = stored k address value ∷ ks
+storedAt (k ∷ ks) (suc id) address value = k ∷ storedAt ks id address value
+
+abbrev pub is : Kind → Entry → Bool
+is k e = eqb (number (e .kind)) (number k)
+
+-- Demand 3: "its writes replayed on the starting registers".
+unfoldable pub put : List Memory → Entry → List Memory
+put ks e = cond (is Kind.written e) (storedAt ks (e .id) (e .address) (e .value)) ks
+
+unfoldable pub replay : List Memory → List Entry → List Memory
+replay ks [] = ks
+replay ks (e ∷ es) = replay (put ks e) es
+
+-- Demand 3: "each read shows the byte that stood there then": in the replay of the entries before it.
+abbrev pub standsAt : Option Memory → (address value : ℕ) → Type 0
+standsAt none address value = ⊥
+standsAt (some k) address value = holds k address ≡ value
+
+abbrev pub whenRead : Bool → List Memory → Entry → Type 0
+whenRead Bool.true ks e = standsAt (getElem? ks (e .id)) (e .address) (e .value)
+whenRead Bool.false ks e = Unit {0}
+
+unfoldable pub Shows : List Memory → List Entry → Type 0
+Shows ks [] = Unit {0}
+Shows ks (e ∷ es) = whenRead (is Kind.read e) ks e × Shows (put ks e) es

@@ -1,0 +1,34 @@
+-- Late opening, stated of the rows and not by running a reader: the first run of fourteen master zeros at or after a column, and
+-- the entries after it.
+use mathlib.Core.Bool.{Bool, true, false, cond}
+use mathlib.Core.List.{List, [], _∷_}
+use Prim.Native.Nat.{ℕ, zero, suc, _≤_, _<_}
+use lib.Dec.{leb}
+use lib.ListN.{drop}
+use Rattle.line.specs.Limits.{restZeros}
+use Rattle.line.specs.Entries.{Entry}
+
+-- The row begins with n zeros.
+unfoldable pub Zeros : ℕ → List Bool → Type 0
+Zeros zero ms = Unit {0}
+Zeros (suc n) [] = ⊥
+Zeros (suc n) (true ∷ ms) = ⊥
+Zeros (suc n) (false ∷ ms) = Zeros n ms
+
+abbrev pub RunAt : List Bool → ℕ → Type 0
+RunAt row j = Zeros restZeros (drop j row)
+
+-- Demand 3: "the first run of fourteen master zeros lying wholly at or after k" begins at j.
+pub record FirstRun (row : List Bool) (k j : ℕ) : Type 0 where
+  pub run : RunAt row j
+  pub wholly : k ≤ j
+  pub first : (i : ℕ) → k ≤ i → i < j → RunAt row i → ⊥
+
+-- There is no such run.
+abbrev pub NoRun : List Bool → ℕ → Type 0
+NoRun row k = (i : ℕ) → k ≤ i → RunAt row i → ⊥
+
+-- The entries of a list that fall in column j or later.
+unfoldable pub fromColumn : ℕ → List Entry → List Entry
+fromColumn j [] = []
+fromColumn j (e ∷ es) = cond (leb j (e .column)) (e ∷ fromColumn j es) (fromColumn j es)
