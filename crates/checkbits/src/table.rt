@@ -1,7 +1,6 @@
 // The check bits of every eleven-bit header word, sent inverted: entry w is the check of w.
 pub const CHECKS: [u8; 2048] = [
-    // IDS 00 to 1f
-    15,
+    15, // IDS 00 to 1f
     12,
     9,
     10,
@@ -129,8 +128,7 @@ pub const CHECKS: [u8; 2048] = [
     3,
     6,
     5,
-    // IDS 20 to 3f
-    1,
+    1, // IDS 20 to 3f
     2,
     7,
     4,
@@ -258,8 +256,7 @@ pub const CHECKS: [u8; 2048] = [
     13,
     8,
     11,
-    // IDS 40 to 5f
-    0,
+    0, // IDS 40 to 5f
     3,
     6,
     5,
@@ -387,8 +384,7 @@ pub const CHECKS: [u8; 2048] = [
     12,
     9,
     10,
-    // IDS 60 to 7f
-    14,
+    14, // IDS 60 to 7f
     13,
     8,
     11,
@@ -516,8 +512,7 @@ pub const CHECKS: [u8; 2048] = [
     2,
     7,
     4,
-    // IDS 80 to 9f
-    2,
+    2, // IDS 80 to 9f
     1,
     4,
     7,
@@ -645,8 +640,7 @@ pub const CHECKS: [u8; 2048] = [
     14,
     11,
     8,
-    // IDS a0 to bf
-    12,
+    12, // IDS a0 to bf
     15,
     10,
     9,
@@ -774,8 +768,7 @@ pub const CHECKS: [u8; 2048] = [
     0,
     5,
     6,
-    // IDS c0 to df
-    13,
+    13, // IDS c0 to df
     14,
     11,
     8,
@@ -903,8 +896,7 @@ pub const CHECKS: [u8; 2048] = [
     1,
     4,
     7,
-    // IDS e0 to ff
-    3,
+    3, // IDS e0 to ff
     0,
     5,
     6,
@@ -1032,8 +1024,7 @@ pub const CHECKS: [u8; 2048] = [
     15,
     10,
     9,
-    // ID 0, address 0
-    6,
+    6, // ID 0, address 0
     5,
     0,
     3,
@@ -1161,8 +1152,7 @@ pub const CHECKS: [u8; 2048] = [
     10,
     15,
     12,
-    // ID 1, address 0
-    8,
+    8, // ID 1, address 0
     11,
     14,
     13,
@@ -1290,8 +1280,7 @@ pub const CHECKS: [u8; 2048] = [
     4,
     1,
     2,
-    // ID 2, address 0
-    9,
+    9, // ID 2, address 0
     10,
     15,
     12,
@@ -1419,8 +1408,7 @@ pub const CHECKS: [u8; 2048] = [
     5,
     0,
     3,
-    // ID 3, address 0
-    7,
+    7, // ID 3, address 0
     4,
     1,
     2,
@@ -1548,8 +1536,7 @@ pub const CHECKS: [u8; 2048] = [
     11,
     14,
     13,
-    // ID 4, address 0
-    11,
+    11, // ID 4, address 0
     8,
     13,
     14,
@@ -1677,8 +1664,7 @@ pub const CHECKS: [u8; 2048] = [
     7,
     2,
     1,
-    // ID 5, address 0
-    5,
+    5, // ID 5, address 0
     6,
     3,
     0,
@@ -1806,8 +1792,7 @@ pub const CHECKS: [u8; 2048] = [
     9,
     12,
     15,
-    // ID 6, address 0
-    4,
+    4, // ID 6, address 0
     7,
     2,
     1,
@@ -1935,8 +1920,7 @@ pub const CHECKS: [u8; 2048] = [
     8,
     13,
     14,
-    // ID 7, address 0
-    10,
+    10, // ID 7, address 0
     9,
     12,
     15,

@@ -1,16 +1,29 @@
--- The bench card holds: one theorem over its fifteen cases. Assumes nothing.
+-- The bench card holds: one theorem over its fifteen cases, by computation. And which slave its nine locks number. Assumes nothing.
 use mathlib.Core.Path.{_≡_, refl}
-use mathlib.Core.List.{List, [], _∷_, map}
-use mathlib.Core.Bool.{Bool, true, false}
-use Prim.Native.Nat.{ℕ}
-use Rattle.line.specs.Rest.{judge, timer}
+use mathlib.Core.List.{List, [], _∷_, _++_, map}
+use mathlib.Core.Option.{Option, none, some}
+use Prim.Native.Nat.{ℕ, _+_}
+use lib.ListN.{replicate}
+use Rattle.line.specs.Limits.{idCount, lockLast}
 use Rattle.line.specs.Bits.{bit, push}
+use Rattle.line.specs.Rest.{Timed, frame, judge, timer}
 use Rattle.line.specs.Division.{feed, divide, remainder, check}
-use Rattle.line.specs.Card.{Line, found, card}
+use Rattle.line.specs.Card.{Line, lockRow, blank, found, card}
 use Rattle.line.specs.Slave
 use Rattle.line.specs.Chain
 use Rattle.line.specs.Reader
+use Rattle.line.proofs.Table.{tabulate}
 
 pub card-holds : map (λ l. found (l .case)) card ≡ map (λ l. l .value ∷ []) card
 unfolding found check remainder divide feed bit push judge timer Slave.lock Slave.speak Slave.step Chain.pass Chain.answers Chain.switchedOn Chain.answersFrom Reader.seen Reader.locked Reader.look Reader.step Reader.columns Reader.entries Reader.listFrom
 card-holds = refl
+
+-- A slave after the card's lock row: nine zeros after S, at the header's next column, with or without a number.
+after-locks : Option ℕ → Timed Slave.Phase
+after-locks number = frame lockLast (Slave.head (lockLast + 1) 0 number)
+
+-- Locks: "So the far slave is ID 0, and slaves past the eighth have none": nine slaves, far slave first.
+far-slave-first : map (λ s. s .state) (Chain.after (Chain.switchedOn (replicate (idCount + 1) blank)) lockRow)
+    ≡ tabulate (λ i. after-locks (some i)) 0 idCount ++ after-locks none ∷ []
+unfolding after-locks push judge timer Slave.lock Slave.speak Slave.step Chain.pass Chain.after Chain.switchedOn
+far-slave-first = refl

@@ -139,6 +139,7 @@ divides n v c h =
     let r : ℕ = remainder n v in
     let e : eqb (divide checkWidth polynomial checkWidth c r) 0 ≡ eqb c r = same-test _ _ (own r c (remainder-lt n v) h) in
     let a : remainder (n + checkWidth) (v * 2 ^ checkWidth + c) ≡ divide checkWidth polynomial checkWidth c r
-        = divide-append checkWidth polynomial n checkWidth v 0 h in
-    ( λ z. ap (λ (x : ℕ). 2 ^ checkWidth - 1 - x) (eqb-true c r (sym e ∙ eq-eqb _ 0 (sym a ∙ z)))
-    , λ z. let q : c ≡ r = omega (arith, remainder-lt n v) in a ∙ eqb-true _ 0 (e ∙ eq-eqb c r q) )
+    = divide-append checkWidth polynomial n checkWidth v 0 h in (
+      λ z. ap (λ (x : ℕ). 2 ^ checkWidth - 1 - x) (eqb-true c r (sym e ∙ eq-eqb _ 0 (sym a ∙ z))),
+      λ z. let q : c ≡ r = omega (arith, remainder-lt n v) in a ∙ eqb-true _ 0 (e ∙ eq-eqb c r q),
+    )

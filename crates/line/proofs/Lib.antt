@@ -1,10 +1,14 @@
+-- What is proved of the definitions: first what is computed, then the laws, each module named for what it holds; last what the
+-- proofs of every crate use.
 pub mod Card
-pub mod Channels
-pub mod Codec
+pub mod Cases
 pub mod Division
+pub mod Words
+pub mod Codec
+pub mod Channels
+pub mod Rest
 pub mod Dress
 pub mod Locks
-pub mod Rest
+pub mod Rules
 pub mod Table
 pub mod Unique
-pub mod Words

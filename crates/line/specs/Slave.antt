@@ -1,5 +1,5 @@
 -- One slave as its own machine: it sees the master's bit m and its far neighbour's bit b, and nothing else.
-use mathlib.Core.Bool.{Bool, true, false, cond, not, _&&_, xor}
+use mathlib.Core.Bool.{Bool, true, false, cond, not, _&&_, Bool·beq}
 use mathlib.Core.Option.{Option, none, some}
 use Prim.Native.Nat.{ℕ, zero, suc, _+_, _-_}
 use lib.Dec.{ltb, eqb}
@@ -80,7 +80,7 @@ speak k (head column so-far number) m b =
 -- otherwise it inverts W and goes deaf." R = 0, W = 1 writes.
 speak k (askR address) m b = turn (askW address m) m k
 speak k (askW address r) m b =
-    cond (xor r m && allows k m address) (turn (byteS m address 1) m k) (turn deaf (not m) k)
+    cond (not (Bool·beq r m) && allows k m address) (turn (byteS m address 1) m k) (turn deaf (not m) k)
 -- Byte: "A 0 at S is answered 0 and ends the access; the slave goes deaf. The addressed slave confirms S = 1 at once with 1."
 speak k (byteS write address nth) false b = turn deaf false k
 speak k (byteS false address nth) true b = turn (sends address nth topBit (word dataBits (holds k address))) true k
