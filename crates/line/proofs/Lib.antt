@@ -9,6 +9,16 @@ pub mod Channels
 pub mod Rest
 pub mod Dress
 pub mod Locks
+pub mod Every
+pub mod Late
+pub mod Rows
+pub mod Memories
+pub mod Addressed
+pub mod Sim
+pub mod Whole
+pub mod Twins
+pub mod Honest
+pub mod Demands
 pub mod Rules
 pub mod Table
 pub mod Unique

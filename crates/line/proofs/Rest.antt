@@ -83,3 +83,15 @@ module _ {P : Type 0} (begun : P) where
       let k : z + 1 < restZeros = omega arith in
       let more : z + 1 + length fs < restZeros = omega arith in
       not-sooner fs (moved f (judge begun s false)) (z + 1) (counts f s z e k) more ∙ ap (λ (n : ℕ). some n) (omega arith)
+
+  -- So many zeros, whatever each does to the phase, bring the state to rest.
+  abbrev pub Soon : ℕ → Timed P → Type 0
+  Soon n s = (fs : List (P → P)) → n ≤ length fs → settled s fs ≡ rest
+
+  pub soon-moved : (f : P → P) (s : Timed P) (n : ℕ) → Soon (suc n) s → Soon n (moved f (judge begun s false))
+  unfolding settled
+  soon-moved f s n h fs k = h (f ∷ fs) (omega arith)
+
+  pub soon-rest : (s : Timed P) → Soon 0 s → s ≡ rest
+  unfolding settled
+  soon-rest s h = h [] (omega arith)

@@ -1,15 +1,18 @@
 -- Words: nothing collected is cut, and the header of a built word is what was asked for. Assumes nothing.
-use mathlib.Core.Path.{_≡_, refl, ap, ap₂, _∙_}
+use mathlib.Core.Path.{_≡_, refl, sym, ap, ap₂, _∙_}
 use mathlib.Core.Bool.{Bool, true, false, cond}
-use Prim.Native.Nat.{ℕ, _+_, _*_, _/_, _%_, _^_, _≤_, _<_}
+use Prim.Native.Nat.{ℕ, zero, suc, _+_, _*_, _/_, _%_, _^_, _≤_, _<_}
 use native.Mathlib.Nat.{mod-eq-of-lt}
+use native.Mathlib.Numerals.{add-one}
 use native.Mathlib.Omega.{arith}
 use borrow.Author.Tests.{eq-eqb, ne-eqb}
-use lib.Pow.{high}
-use Rattle.line.specs.Bits.{num, bit, push}
-use Rattle.line.specs.Division.{headerBits, checkWidth, check, word}
-use Rattle.line.specs.Header.{access, command, header, accessWord, commandWord}
+use lib.Pow.{high, shr-shr, shr-le}
+use Rattle.line.specs.Limits.{idCount}
+use Rattle.line.specs.Bits.{num, bitOf, bit, push}
+use Rattle.line.specs.Division.{headerBits, dataBits, checkWidth, topBit, check, word, fits, byteOf}
+use Rattle.line.specs.Header.{Header, wrong, access, command, header, accessWord, commandWord}
 use Rattle.line.proofs.Division.{check-lt, accepted}
+use Rattle.line.proofs.Every.{either}
 
 num-lt : (b : Bool) → num b < 2
 num-lt true = omega arith
@@ -46,3 +49,43 @@ header-command ids cmd h k =
     let s : v / 2 ^ 2 % 2 ^ 8 ≡ ids = omega arith in
     let c : v % 2 ^ 2 ≡ cmd = omega arith in
     rw (accepted headerBits v, above-check headerBits v, cts, s, c)
+
+-- A byte with its check bits has the twelve bits that are counted down ..
+pub word-lt : (v : ℕ) → v < 2 ^ dataBits → word dataBits v < 2 ^ suc topBit
+unfolding word
+word-lt v h = omega (arith, check-lt dataBits v)
+
+-- .. and is that byte.
+pub byte-word : (v : ℕ) → v < 2 ^ dataBits → byteOf (word dataBits v) ≡ v
+unfolding byteOf
+byte-word v h = rw (above-check dataBits v) (mod-eq-of-lt h)
+
+pub byte-lt : (w : ℕ) → byteOf w < 2 ^ dataBits
+unfolding byteOf
+byte-lt w = omega arith
+
+-- The bits of w collected as they come, highest first: all above the last n and then the next are all above the last n - 1.
+num-bit : (r : ℕ) → r < 2 → num (bitOf r) ≡ r
+num-bit zero h = refl
+num-bit (suc zero) h = refl
+num-bit (suc (suc r)) h = absurd (omega arith)
+
+pub push-bit : (n w : ℕ) → w < 2 ^ 16 → push (w / 2 ^ suc n) (bit n w) ≡ w / 2 ^ n
+unfolding bit
+push-bit n w h =
+    let u : ℕ = w / 2 ^ n in
+    let half : w / 2 ^ suc n ≡ u / 2 = rw (← add-one n) (sym (shr-shr w n 1)) in
+    let small : u < 2 ^ 16 = omega (arith, shr-le w n) in
+    rw (half, push-keeps (u / 2) (bitOf (u % 2)) (omega arith), num-bit (u % 2) (omega arith)) (omega arith)
+
+-- The ID of an access is one of eight.
+abbrev pub LowId : Header → Type 0
+LowId wrong = Unit {0}
+LowId (access id address) = id < idCount
+LowId (command ids cmd) = Unit {0}
+
+pub header-low : (w : ℕ) → LowId (header w)
+unfolding header
+header-low w =
+    let v : ℕ = w / 2 ^ checkWidth in
+    either LowId (fits headerBits w) (either LowId (bit 10 v) (omega arith) tt) tt

@@ -1,0 +1,42 @@
+-- What holds of every element of a list, of what an option may hold, of both outcomes of a test, and of two lists element by
+-- element. Assumes nothing.
+use mathlib.Core.Path.{_≡_, refl}
+use mathlib.Core.Bool.{Bool, true, false, cond}
+use mathlib.Core.List.{List, [], _∷_}
+use mathlib.Core.Option.{Option, none, some}
+use Rattle.line.specs.Entries.{Entry, note}
+
+module _ {A : Type 0} (Q : A → Type 0) where
+  abbrev pub Every : List A → Type 0
+  Every [] = Unit {0}
+  Every (x ∷ xs) = Q x × Every xs
+
+  abbrev pub IfAny : Option A → Type 0
+  IfAny none = Unit {0}
+  IfAny (some x) = Q x
+
+  pub either : (b : Bool) {x y : A} → Q x → Q y → Q (cond b x y)
+  either true p q = p
+  either false p q = q
+
+-- A test, or an option, taken apart with what it came out as.
+pub tested : {Q : Type 0} (b : Bool) → (b ≡ true → Q) → (b ≡ false → Q) → Q
+tested true held failed = held refl
+tested false held failed = failed refl
+
+pub looked-up : {A Q : Type 0} (o : Option A) → (o ≡ none → Q) → ((x : A) → o ≡ some x → Q) → Q
+looked-up none nothing found = nothing refl
+looked-up (some x) nothing found = found x refl
+
+-- Two lists of one length, related element by element.
+abbrev pub Matched : {A : Type 0} → (A → A → Type 0) → List A → List A → Type 0
+Matched R [] [] = Unit {0}
+Matched R [] (y ∷ ys) = ⊥
+Matched R (x ∷ xs) [] = ⊥
+Matched R (x ∷ xs) (y ∷ ys) = R x y × Matched R xs ys
+
+module _ (Q : Entry → Type 0) where
+  -- A column's entry, if it has one, before the others.
+  pub every-note : (o : Option Entry) (es : List Entry) → IfAny Q o → Every Q es → Every Q (note o es)
+  every-note none es q qs = qs
+  every-note (some e) es q qs = (q, qs)

@@ -1,0 +1,75 @@
+-- The chain's own account holds no fault: "2, 8, 9, 12 and 14 never occur in it". Assumes nothing.
+use mathlib.Core.Path.{_≡_, refl}
+use mathlib.Core.Bool.{Bool, true, false, _&&_, _||_, Bool·beq}
+use mathlib.Core.List.{List, [], _∷_}
+use mathlib.Core.Option.{Option, none, some}
+use Prim.Native.Nat.{ℕ, zero, suc}
+use lib.Dec.{ltb}
+use Rattle.line.specs.Limits.{headerColumns, lockLast}
+use Rattle.line.specs.Bits.{push}
+use Rattle.line.specs.Rest.{Timed, Judged, still, ends, meant, judge}
+use Rattle.line.specs.Division.{dataBits, fits, byteOf}
+use Rattle.line.specs.Header.{Header, wrong, access, command, header}
+use Rattle.line.specs.Memory.{Memory, allows}
+use Rattle.line.specs.Entries.{Kind, Entry, entry}
+use Rattle.line.specs.Slave.{Slave}
+use Rattle.line.specs.Chain.{column, memories}
+use Rattle.line.specs.Account.{Phase, deaf, locks, head, askR, askW, byteS, carries, askP, Told, slaveAt, moreAt, headed, asked, tell, stepped, begun, step, along}
+use Rattle.line.specs.Replay.{is}
+use Rattle.line.proofs.Every.{Every, IfAny, either, every-note}
+
+-- The kinds that only a damaged row shows.
+abbrev pub faults : List Kind
+faults = Kind.lockodd ∷ Kind.odd ∷ Kind.mute ∷ Kind.readbad ∷ Kind.echo ∷ []
+
+-- The entry is of one of these kinds.
+abbrev pub among : List Kind → Entry → Bool
+among [] e = false
+among (k ∷ ks) e = is k e || among ks e
+
+-- An entry is sound if it is none of them.
+abbrev pub Sound : Entry → Type 0
+Sound e = among faults e ≡ false
+
+-- What a column tells is sound.
+abbrev Fair : Told → Type 0
+Fair t = IfAny Sound (t .says)
+
+fair-headed : (c : ℕ) (h : Header) → Fair (headed c h)
+unfolding headed
+fair-headed c wrong = refl
+fair-headed c (access id address) = tt
+fair-headed c (command ids cmd) = refl
+
+fair-asked : (c : ℕ) (o : Option Memory) (id address : ℕ) (w : Bool) → Fair (asked c o id address w)
+unfolding asked
+fair-asked c none id address w = refl
+fair-asked c (some k) id address w = either Fair (allows k w address) tt refl
+
+fair-tell : (c : ℕ) (ks : List Memory) (p : Phase) (m : Bool) → Fair (tell c ks p m)
+unfolding tell
+fair-tell c ks deaf m = tt
+fair-tell c ks (locks column so-far) m = either Fair (ltb column lockLast) tt refl
+fair-tell c ks (head column so-far) m = either Fair (ltb column headerColumns) tt (fair-headed c (header (push so-far m)))
+fair-tell c ks (askR id address) m = tt
+fair-tell c ks (askW id address r) m = either Fair (Bool·beq r m) refl (fair-asked c (slaveAt ks id) id address m)
+fair-tell c ks (byteS write id address nth) false = tt
+fair-tell c ks (byteS write id address nth) true = tt
+fair-tell c ks (carries write id address nth (suc left) so-far) m = tt
+fair-tell c ks (carries false id address nth zero so-far) m = refl
+fair-tell c ks (carries true id address nth zero so-far) m =
+    either (λ k. Sound (entry k c id address (byteOf (push so-far m)))) (fits dataBits (push so-far m)) refl refl
+fair-tell c ks (askP write good id address nth) m = either Fair (good && moreAt (slaveAt ks id) write address nth) tt refl
+
+fair-stepped : (c : ℕ) (ks : List Memory) (j : Judged Phase) (m : Bool) → IfAny Sound (stepped c ks j m .says)
+fair-stepped c ks (still s) m = tt
+fair-stepped c ks ends m = refl
+fair-stepped c ks (meant z p) m = fair-tell c ks p m
+
+pub fair-along : (ss : List Slave) (s : Timed Phase) (c : ℕ) (row : List Bool) → Every Sound (along ss s c row)
+unfolding along step
+fair-along ss s c [] = tt
+fair-along ss s c (m ∷ row) =
+    every-note Sound (step c (memories ss) s m .says) (along (column ss m .slaves) (step c (memories ss) s m .state) (suc c) row)
+    (fair-stepped c (memories ss) (judge begun s m) m)
+    (fair-along (column ss m .slaves) (step c (memories ss) s m .state) (suc c) row)

@@ -1,0 +1,54 @@
+-- A chain over rows: one row after another, and fourteen zeros, which bring every slave of any chain to rest. Assumes nothing.
+use mathlib.Core.Path.{_≡_, refl, ap}
+use mathlib.Core.Bool.{Bool, false}
+use mathlib.Core.List.{List, [], _∷_, _++_}
+use Prim.Native.Nat.{ℕ, zero, suc}
+use lib.ListN.{replicate}
+use Rattle.line.specs.Limits.{restZeros}
+use Rattle.line.specs.Rest.{rest, Judged, still, ends, meant, judge}
+use Rattle.line.specs.Memory.{Memory}
+use Rattle.line.specs.Slave.{Phase, Slave, speak, begun, stepped, step}
+use Rattle.line.specs.Chain.{pass, column, answers, after}
+use Rattle.line.proofs.Rest.{moved, Soon, soon-moved, soon-rest, fourteen}
+use Rattle.line.proofs.Every.{Every}
+
+-- One row after another: the chain goes on from the slaves that the first leaves.
+pub answers-append : (ss : List Slave) (xs ys : List Bool) → answers ss (xs ++ ys) ≡ answers ss xs ++ answers (after ss xs) ys
+unfolding answers after
+answers-append ss [] ys = refl
+answers-append ss (m ∷ xs) ys = ap (λ (l : List Bool). column ss m .answer ∷ l) (answers-append (column ss m .slaves) xs ys)
+
+pub after-append : (ss : List Slave) (xs ys : List Bool) → after ss (xs ++ ys) ≡ after (after ss xs) ys
+unfolding after
+after-append ss [] ys = refl
+after-append ss (m ∷ xs) ys = after-append (column ss m .slaves) xs ys
+
+-- A slave is a machine behind Rest's judge.
+moves : (k : Memory) (m b : Bool) (j : Judged Phase) → stepped k j m b .slave .state ≡ moved begun (λ p. speak k p m b .next) j
+moves k m b (still s) = refl
+moves k m b ends = refl
+moves k m b (meant z p) = refl
+
+-- Every slave is so many zeros from rest.
+abbrev pub AllSoon : ℕ → List Slave → Type 0
+AllSoon n ss = Every (λ s. Soon begun n (s .state)) ss
+
+-- A zero brings each of them one nearer, whatever bits go along the chain.
+soon-pass : (n : ℕ) (ss : List Slave) (b : Bool) → AllSoon (suc n) ss → AllSoon n (pass ss false b .slaves)
+unfolding pass step
+soon-pass n [] b h = tt
+soon-pass n (s ∷ ss) b h = (
+  rw (moves (s .memory) false b (judge begun (s .state) false)) (soon-moved begun _ (s .state) n (h .0)),
+  soon-pass n ss (step s false b .sent) (h .1),
+)
+
+pub soon-after : (n : ℕ) (ss : List Slave) → AllSoon n ss → Every (λ s. s .state ≡ rest) (after ss (replicate n false))
+unfolding after
+soon-after zero [] h = tt
+soon-after zero (s ∷ ss) h = (soon-rest begun (s .state) (h .0), soon-after zero ss (h .1))
+soon-after (suc n) ss h = soon-after n (column ss false .slaves) (soon-pass n ss false h)
+
+-- Every slave is fourteen zeros from rest.
+pub all-soon : (ss : List Slave) → AllSoon restZeros ss
+all-soon [] = tt
+all-soon (s ∷ ss) = (fourteen begun (s .state), all-soon ss)
