@@ -1,15 +1,17 @@
 -- Words: nothing collected is cut, and the header of a built word is what was asked for. Assumes nothing.
-use mathlib.Core.Path.{_≡_, refl, ap, ap₂, _∙_}
+use mathlib.Core.Path.{_≡_, refl, sym, ap, ap₂, _∙_}
 use mathlib.Core.Bool.{Bool, true, false, cond}
-use Prim.Native.Nat.{ℕ, _+_, _*_, _/_, _%_, _^_, _≤_, _<_}
-use native.Mathlib.Nat.{mod-eq-of-lt}
+use mathlib.Core.List.{List, [], _∷_, _++_}
+use Prim.Native.Nat.{ℕ, zero, suc, _+_, _*_, _/_, _%_, _^_, _≤_, _<_}
+use native.Mathlib.Nat.{zero-add, suc-add, mod-eq-of-lt}
 use native.Mathlib.Omega.{arith}
 use borrow.Author.Tests.{eq-eqb, ne-eqb}
-use lib.Pow.{high}
-use Rattle.line.specs.Bits.{num, bit, push}
+use lib.ListN.{length}
+use lib.Pow.{high, low}
+use Rattle.line.specs.Bits.{num, bit, bits, push}
 use Rattle.line.specs.Division.{headerBits, checkWidth, check, word}
 use Rattle.line.specs.Header.{access, command, header, accessWord, commandWord}
-use Rattle.line.proofs.Division.{check-lt, accepted}
+use Rattle.line.proofs.Division.{bit-above, bit-same, under, check-lt, accepted}
 
 num-lt : (b : Bool) → num b < 2
 num-lt true = omega arith
@@ -19,6 +21,25 @@ num-lt false = omega arith
 pub push-keeps : (w : ℕ) (b : Bool) → w < 2 ^ 15 → push w b ≡ 2 * w + num b
 unfolding push
 push-keeps w b h = mod-eq-of-lt (omega (arith, num-lt b))
+
+-- The lowest n bits look at nothing above them ..
+pub bits-low : (n u v : ℕ) → u % 2 ^ n ≡ v % 2 ^ n → bits n u ≡ bits n v
+unfolding bits
+bits-low zero u v e = refl
+bits-low (suc n) u v e =
+    ap₂ (λ (b : Bool) (bs : List Bool). b ∷ bs) (bit-same n u v e)
+    (bits-low n u v (sym (under n u) ∙ ap (λ (x : ℕ). x % 2 ^ n) e ∙ under n v))
+
+-- .. so a word's bits are those of its upper and its lower part.
+pub bits-append : (n m v : ℕ) {c : ℕ} → c < 2 ^ m → bits (n + m) (v * 2 ^ m + c) ≡ bits n v ++ bits m c
+unfolding bits
+bits-append zero m v {c} h = rw (zero-add m) (bits-low m (v * 2 ^ m + c) c (low v m h ∙ sym (mod-eq-of-lt h)))
+bits-append (suc n) m v h = rw (suc-add n m, bit-above n m v h, bits-append n m v h)
+
+pub length-bits : (n v : ℕ) → length (bits n v) ≡ n
+unfolding bits
+length-bits zero v = refl
+length-bits (suc n) v = ap suc (length-bits n v)
 
 -- A word's bits above its check bits are those it was made of.
 pub above-check : (n v : ℕ) → word n v / 2 ^ checkWidth ≡ v

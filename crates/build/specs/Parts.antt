@@ -1,0 +1,17 @@
+-- The parts of a row that build's helpers lay, for their contracts: nothing here is needed to read what build promises.
+use mathlib.Core.Bool.{Bool, true, false, cond}
+use mathlib.Core.List.{List, _∷_, _++_}
+use Prim.Native.Nat.{ℕ, _+_, _*_}
+use lib.Dec.{ltb}
+use lib.ListN.{replicate}
+use Rattle.line.specs.Limits.{restZeros}
+use Rattle.line.specs.Building.{opening}
+use Rattle.build.specs.Build.{outsideAccess}
+
+-- Fourteen zeros, S and the header.
+unfoldable pub lead : ℕ → List Bool
+lead header = replicate restZeros false ++ opening header
+
+-- Building: "Reading n bytes takes 32 + 14n columns, writing n lent bytes likewise".
+unfoldable pub accessRefusal : (id address count room : ℕ) → ℕ
+accessRefusal id address count room = cond (outsideAccess id address count) 10 (cond (ltb room (32 + 14 * count)) 9 0)
