@@ -3,28 +3,21 @@ use mathlib.Core.Path.{_≡_, refl, sym, ap, _∙_}
 use mathlib.Core.Bool.{Bool, cond}
 use mathlib.Core.List.{List, map, _++_}
 use Prim.Native.Nat.{ℕ, _+_, _*_, _≤_, _<_}
-use borrow.Author.Tests.{lt-ltb, le-ltb, ltb-false}
+use native.Mathlib.Omega.{arith}
+use borrow.Author.Tests.{lt-ltb, le-ltb, ltb-false, eq-eqb, ne-eqb}
 use lib.Dec.{ltb}
 use lib.ListN.{length}
-use lib.Seq.{sets}
-use Rattle.line.specs.Building.{Request, read, write, command}
+use lib.Seq.{sets, length-sets}
+use Rattle.line.specs.Bits.{num, bits}
+use Rattle.line.specs.Header.{accessWord}
+use Rattle.line.specs.Building.{Request, read, write, command, readBytes, writeBytes}
 use Rattle.job.specs.Outcome.{outcome, leaves}
 use Rattle.job.specs.declared.Outcome.the-variants.{Made, Refused}
 use Rattle.job.proofs.Ends.{not-first, then-rest, refused-answer, refused-leaves, made-answer, made-leaves}
 use Rattle.build.specs.Build.{outsideAccess, outside, made, refusal, Built}
-use Rattle.build.specs.Parts.{accessRefusal}
+use Rattle.build.specs.Parts.{lead, accessRefusal, Begun}
 use Rattle.build.proofs.Requests.{Inside, inside}
-use Rattle.build.proofs.Rows.{length-read, length-write, length-command}
-
--- The refusal of an access is that of its request.
-pub refusal-read : (id address count room : ℕ) → accessRefusal id address count room ≡ refusal (read id address count) room
-unfolding refusal outside accessRefusal
-refusal-read id address count room = rw (length-read id address count)
-
-pub refusal-write : (id address : ℕ) (vs : List ℕ) (room : ℕ)
-    → accessRefusal id address (length vs) room ≡ refusal (write id address vs) room
-unfolding refusal outside accessRefusal
-refusal-write id address vs room = rw (length-write id address vs)
+use Rattle.build.proofs.Rows.{made-read, made-write, length-read, length-write, length-command, laid-access}
 
 -- An access that is let through is inside, and its columns fit.
 pub access-inside : (id address count room : ℕ) → accessRefusal id address count room ≡ 0 → Inside id address count
@@ -69,3 +62,56 @@ module _ (ids cmd room : ℕ) where
   pub command-none : cmd ≤ 3 → 30 ≤ room → refusal (command ids cmd) room ≡ 0
   unfolding refusal outside
   command-none h k = rw (le-ltb 3 cmd h, length-command ids cmd, le-ltb room 30 k)
+
+-- A register access, read or write: refused alike, and its row is the lead with R and W, and the bytes of `rest` behind it.
+pub record Access (id address count way : ℕ) (r : Request) (rest : List Bool) : Type 0 where
+  pub refuses : (room : ℕ) → accessRefusal id address count room ≡ refusal r room
+  pub parts : made r ≡ map num (lead (accessWord id address) ++ bits 2 way) ++ map num rest
+  pub long : length (made r) ≡ 32 + 14 * count
+
+pub reading : (id address count : ℕ) → Access id address count 2 (read id address count) (readBytes count)
+unfolding refusal outside accessRefusal
+reading id address count =
+    record {
+      refuses = λ room. rw (length-read id address count);
+      parts = made-read id address count;
+      long = length-read id address count;
+    }
+
+pub writing : (id address : ℕ) (vs : List ℕ) → Access id address (length vs) 1 (write id address vs) (writeBytes vs)
+unfolding refusal outside accessRefusal
+writing id address vs =
+    record {
+      refuses = λ room. rw (length-write id address vs);
+      parts = made-write id address vs;
+      long = length-write id address vs;
+    }
+
+module _ {id address count way : ℕ} {r : Request} {rest : List Bool} (access : Access id address count way r rest)
+    {lent led : List ℕ} {why : ℕ} (begun : Begun id address count way lent why led) where
+  pub access-refused : (why ≡ 0 → ⊥) → Built r lent (Refused why) led
+  access-refused h =
+      let same : led ≡ lent = begun .leads ∙ rw (ne-eqb why 0 h) in
+      rw same (built-refused r lent why (begun .refuses ∙ access .refuses (length lent)) h)
+
+  access-led : why ≡ 0 → led ≡ sets lent 0 (map num (lead (accessWord id address) ++ bits 2 way))
+  access-led e = begun .leads ∙ rw (eq-eqb why 0 e)
+
+  pub access-room : why ≡ 0 → 32 + 14 * count ≤ length led
+  access-room e =
+      rw (access-led e, length-sets) (access-fits id address count (length lent) (sym (begun .refuses) ∙ e))
+
+  pub access-made : why ≡ 0 → {n : ℕ} {after : List ℕ} → (n ≡ 32 + 14 * count) × (after ≡ sets led 32 (map num rest))
+      → Built r lent (Made n) after
+  access-made e {n} {after} put =
+      built-made
+      r
+      lent
+      after
+      n
+      (sym (access .refuses (length lent)) ∙ sym (begun .refuses) ∙ e)
+      (put .0 ∙ sym (access .long))
+      (put .1
+      ∙ ap (λ (l : List ℕ). sets l 32 (map num rest)) (access-led e)
+      ∙ laid-access lent (accessWord id address) way rest
+      ∙ ap (sets lent 0) (sym (access .parts)))

@@ -30,12 +30,12 @@ unfolding lead bits bit
 lead-bits v h = bits-append 15 15 1 (word-lt headerBits v h)
 
 -- .. with R and W, of thirty-two ..
-pub access-bits : (v rw : ℕ) → v < 2 ^ headerBits → rw < 4
-    → bits 32 (4 * (2 ^ 15 + word headerBits v) + rw) ≡ lead v ++ bits 2 rw
-access-bits v rw h k =
-    ap (λ (x : ℕ). bits 32 (x + rw)) (mul-comm 4 (2 ^ 15 + word headerBits v))
+pub access-bits : (v way : ℕ) → v < 2 ^ headerBits → way < 4
+    → bits 32 (4 * (2 ^ 15 + word headerBits v) + way) ≡ lead v ++ bits 2 way
+access-bits v way h k =
+    ap (λ (x : ℕ). bits 32 (x + way)) (mul-comm 4 (2 ^ 15 + word headerBits v))
     ∙ bits-append 30 2 (2 ^ 15 + word headerBits v) k
-    ∙ ap (λ (l : List Bool). l ++ bits 2 rw) (lead-bits v h)
+    ∙ ap (λ (l : List Bool). l ++ bits 2 way) (lead-bits v h)
 
 -- .. and a byte's S, twelve bits and P of fourteen.
 pub no-reads : (left : ℕ) → left ≤ 0 → readBytes left ≡ []
@@ -117,8 +117,8 @@ unfolding lead bits
 length-command ids cmd = rw (made-command ids cmd)
 
 -- Bytes laid behind the lead, R and W.
-pub laid-access : (l : List ℕ) (v rw : ℕ) (rest : List Bool)
-    → sets (sets l 0 (map num (lead v ++ bits 2 rw))) 32 (map num rest)
-    ≡ sets l 0 (map num (lead v ++ bits 2 rw) ++ map num rest)
+pub laid-access : (l : List ℕ) (v way : ℕ) (rest : List Bool)
+    → sets (sets l 0 (map num (lead v ++ bits 2 way))) 32 (map num rest)
+    ≡ sets l 0 (map num (lead v ++ bits 2 way) ++ map num rest)
 unfolding lead bits
-laid-access l v rw rest = sym (sets-append l 0 (map num (lead v ++ bits 2 rw)) (map num rest))
+laid-access l v way rest = sym (sets-append l 0 (map num (lead v ++ bits 2 way)) (map num rest))

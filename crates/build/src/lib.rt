@@ -10,19 +10,18 @@ ghost use Rattle.line.specs.Division.{headerBits, dataBits, check, word};
 ghost use Rattle.line.specs.Building.{Request, readBytes, writeBytes};
 ghost use Rattle.line.specs.Header.{accessWord};
 ghost use Rattle.build.specs.Build.{outsideAccess, Built};
-ghost use Rattle.build.specs.Parts.{accessRefusal, lead};
+ghost use Rattle.build.specs.Parts.{accessRefusal, lead, Begun};
 use job::Outcome;
 
 // Read `count` registers of the slave `id`, from `address` on.
 pub fn build_read(id: u8, address: u8, count: usize, out: &mut [u8]) -> Outcome
     ensures { λ r. ⌜ Built (Request.read id address count) (now (out .entry)) r (now (out .exit)) ⌝ }
 {
-    let why = refusal(id, address, count, out.len());
+    let why = begin(out, id, address, count, 2);
     if why != 0 {
         return Outcome::Refused(why);
     }
-    let at = put_access(out, id, address, 2);
-    let n = put_reads(out, at, count);
+    let n = put_reads(out, 32, count);
     Outcome::Made(n)
 }
 
@@ -30,12 +29,11 @@ pub fn build_read(id: u8, address: u8, count: usize, out: &mut [u8]) -> Outcome
 pub fn build_write(id: u8, address: u8, bytes: &[u8], out: &mut [u8]) -> Outcome
     ensures { λ r. ⌜ Built (Request.write id address (now (bytes .entry))) (now (out .entry)) r (now (out .exit)) ⌝ }
 {
-    let why = refusal(id, address, bytes.len(), out.len());
+    let why = begin(out, id, address, bytes.len(), 1);
     if why != 0 {
         return Outcome::Refused(why);
     }
-    let at = put_access(out, id, address, 1);
-    let n = put_writes(out, at, bytes);
+    let n = put_writes(out, 32, bytes);
     Outcome::Made(n)
 }
 
@@ -52,6 +50,18 @@ pub fn build_command(ids: u8, cmd: u8, out: &mut [u8]) -> Outcome
     let start = opening(ids as u16 * 4 + cmd as u16);
     let n = put_bits(out, 0, 30, start);
     Outcome::Made(n)
+}
+
+// Answers why a register access of so many bytes is refused; where it is not, answers 0 and puts its first 32 columns.
+fn begin(out: &mut [u8], id: u8, address: u8, count: usize, way: u64) -> u8
+    requires { ⌜ way < 4 ⌝ }
+    ensures { λ r. ⌜ Begun id address count way (now (out .entry)) r (now (out .exit)) ⌝ }
+{
+    let why = refusal(id, address, count, out.len());
+    if why == 0 {
+        put_access(out, id, address, way);
+    }
+    why
 }
 
 // 10 or 9, or 0 where a register access of so many bytes is refused by neither.
@@ -86,13 +96,13 @@ fn outside(id: u8, address: u8, count: usize) -> bool
     128 < end
 }
 
-// Fourteen zeros, S, the header, R and W; answers the column behind them.
-fn put_access(out: &mut [u8], id: u8, address: u8, rw: u64) -> usize
-    requires { ⌜ (32 ≤ length (now out)) × (id < 8) × (address < 128) × (rw < 4) ⌝ }
-    ensures { λ r. ⌜ (r ≡ 32) × (now (out .exit) ≡ sets (now (out .entry)) 0 (map num (lead (accessWord id address) ++ bits 2 rw))) ⌝ }
+// Fourteen zeros, S, the header, R and W, which are the two bits of `way`; answers the column behind them.
+fn put_access(out: &mut [u8], id: u8, address: u8, way: u64) -> usize
+    requires { ⌜ (32 ≤ length (now out)) × (id < 8) × (address < 128) × (way < 4) ⌝ }
+    ensures { λ r. ⌜ (r ≡ 32) × (now (out .exit) ≡ sets (now (out .entry)) 0 (map num (lead (accessWord id address) ++ bits 2 way))) ⌝ }
 {
     let start = opening(1024 + id as u16 * 128 + address as u16);
-    put_bits(out, 0, 32, 4 * start + rw)
+    put_bits(out, 0, 32, 4 * start + way)
 }
 
 // S and the header of eleven bits with their check, as one number of sixteen bits.

@@ -42,7 +42,7 @@ returns c =
       put .ensures .0,
       put .ensures .1
           ∙ ap (λ (l : List Bool). sets (a .out .now) 0 (map num l))
-          (ap (λ (x : ℕ). bits 32 (4 * x + a .rw)) (start .ensures .0) ∙ access-bits _ (a .rw) (search needs) (search needs)),
+          (ap (λ (x : ℕ). bits 32 (4 * x + a .way)) (start .ensures .0) ∙ access-bits _ (a .way) (search needs) (search needs)),
     )
 
 pub put-access-spec : {M : Type 1} → statement M
