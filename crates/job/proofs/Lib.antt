@@ -1,1 +1,3 @@
 pub mod Bits
+pub mod Ends
+pub mod Laid

@@ -15,7 +15,7 @@ use Rattle.line.specs.Division.{feed, divide, checkWidth, polynomial, re
 use Rattle.line.proofs.Table.{below}
 
 -- A bit above the lowest m is a bit of what stands above them.
-bit-above : (n m v : ℕ) {c : ℕ} → c < 2 ^ m → bit (n + m) (v * 2 ^ m + c) ≡ bit n v
+pub bit-above : (n m v : ℕ) {c : ℕ} → c < 2 ^ m → bit (n + m) (v * 2 ^ m + c) ≡ bit n v
 unfolding bit
 bit-above n m v {c} h = rw (add-comm n m, ← shr-shr (v * 2 ^ m + c) m n, high v m h)
 
@@ -23,10 +23,10 @@ bit-above n m v {c} h = rw (add-comm n m, ← shr-shr (v * 2 ^ m + c) m n, high 
 top : (n v : ℕ) → v % 2 ^ suc n / 2 ^ n ≡ v / 2 ^ n % 2
 top n v = rw (← one-add n) (field v 1 n)
 
-under : (n v : ℕ) → v % 2 ^ suc n % 2 ^ n ≡ v % 2 ^ n
+pub under : (n v : ℕ) → v % 2 ^ suc n % 2 ^ n ≡ v % 2 ^ n
 under n v = rw (← one-add n) (mod-mod-pow v 1 n)
 
-bit-same : (n u v : ℕ) → u % 2 ^ suc n ≡ v % 2 ^ suc n → bit n u ≡ bit n v
+pub bit-same : (n u v : ℕ) → u % 2 ^ suc n ≡ v % 2 ^ suc n → bit n u ≡ bit n v
 unfolding bit
 bit-same n u v e = ap bitOf (sym (top n u) ∙ ap (λ (x : ℕ). x / 2 ^ n) e ∙ top n v)
 

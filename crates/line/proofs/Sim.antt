@@ -187,7 +187,7 @@ module _ (ks : List Memory) (bs : Bytes ks) (c z z′ : ℕ) where
   collects : (id address left got : ℕ) (k : Memory) → getElem? ks id ≡ some k → got ≡ word dataBits (holds k address) / 2 ^ suc left
       → push got (bit left (word dataBits (holds k address))) ≡ word dataBits (holds k address) / 2 ^ left
   collects id address left got k e h =
-      rw h (push-bit left (word dataBits (holds k address)) (omega (arith, word-lt (holds k address) (byte-at id address k e))))
+      rw h (push-bit left (word dataBits (holds k address)) (omega (arith, word-lt dataBits (holds k address) (byte-at id address k e))))
 
   -- One column of a frame, in each of the cases above.
   pub advance : {p : Account.Phase} {f : ℕ → Slave.Phase} {r : Reader.Phase} → Sim ks p f r → (m : Bool) → timer z m ≡ some z′
@@ -245,7 +245,7 @@ module _ (ks : List Memory) (bs : Bytes ks) (c z z′ : ℕ) where
       to (λ i. Slave.deaf) false (goes-deaf false t id (Slave.byteS write address nth) false k e (λ b. refl)) all-deaf refl bs tt
   advance (at-S false id address nth k e) true t =
       let what : ℕ = word dataBits (holds k address) in
-      let small : what < 2 ^ suc topBit = word-lt (holds k address) (byte-at id address k e) in
+      let small : what < 2 ^ suc topBit = word-lt dataBits (holds k address) (byte-at id address k e) in
       to (only id (Slave.sends address nth topBit what)) true
       (speaks true t id (Slave.byteS false address nth) (Slave.sends address nth topBit what) true k e (λ b. refl))
       (in-read id address nth topBit 0 0 k e (sym (div-eq-of-lt small))) refl bs tt

@@ -1,0 +1,4 @@
+pub mod Columns
+pub mod Ends
+pub mod Requests
+pub mod Rows

@@ -1,0 +1,36 @@
+-- `build::begin` meets its contract: the columns are put where nothing refuses. Assumes nothing.
+use mathlib.Core.Path.{_≡_, refl, sym, _∙_}
+use borrow.Author.Needs.{needs}
+use borrow.Author.Tests.{eq-eqb, ne-eqb}
+use Rattle.build.proofs.Ends.{access-inside, access-fits}
+use Rattle.build.proofs.begin.Statement.{statement}
+use Rattle.build.proofs.begin.Tie as tie
+
+refusal-requires : tie.Need-refusal-requires
+refusal-requires c κs = search needs
+
+put-access-requires : tie.Need-put-access-requires
+put-access-requires c κs =
+    let e = sym (c .before .before .refusal .ensures) ∙ c .before .if1 .taken in
+    let within = access-inside _ _ _ _ e in
+    let room = access-fits _ _ _ _ e in
+    search needs
+
+same-length : tie.Need-same-length
+same-length c = search needs
+
+returns : tie.Need-returns
+returns c =
+    let why = c .before .before .before .before .before in
+    record {
+      refuses = why .refusal .ensures;
+      leads = rw (eq-eqb (why .refusal .result) 0 (c .before .before .before .before .if1 .taken)) (c .before .before .put-access .ensures .1);
+    }
+
+returns-2 : tie.Need-returns-2
+returns-2 c =
+    record { refuses = c .before .refusal .ensures; leads = rw (ne-eqb (c .before .refusal .result) 0 (c .if1 .left)) }
+
+pub begin-spec : {M : Type 1} → statement M
+begin-spec =
+    tie.close (tie.spec refusal-requires put-access-requires same-length returns returns-2)

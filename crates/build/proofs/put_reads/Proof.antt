@@ -1,0 +1,65 @@
+-- `build::put_reads` meets its contract. The loop's invariant: the bytes that are left, laid on the buffer of now, are all the bytes
+-- laid on the first buffer. Assumes nothing.
+use mathlib.Core.List.{map}
+use mathlib.Core.Path.{_≡_, refl, sym, ap, _∙_}
+use Prim.Native.Nat.{_+_, _*_}
+use borrow.Author.Needs.{needs}
+use lib.ListN.{length}
+use lib.Seq.{sets}
+use Rattle.build.proofs.Columns.{run-laid}
+use Rattle.build.proofs.Rows.{no-reads, read-byte}
+use Rattle.line.specs.Bits.{num}
+use Rattle.line.specs.Building.{readBytes}
+use Rattle.build.proofs.put_reads.Statement.{statement}
+use Rattle.build.proofs.put_reads.Tie as tie
+
+abbrev Inv-loop : tie.InvT-loop
+Inv-loop out₀ at count p₀ left₀ out p left =
+    (p + 14 * left ≡ at + 14 * count) × (length out ≡ length out₀)
+    × (sets out p (map num (readBytes left)) ≡ sets out₀ at (map num (readBytes count)))
+
+abbrev μ-loop : tie.MeasureT-loop
+μ-loop out₀ at count p₀ left₀ out p left = left
+
+loop-holds : tie.Need-loop-holds Inv-loop μ-loop
+loop-holds c = search needs
+
+put-bits-requires : tie.Need-put-bits-requires Inv-loop μ-loop
+put-bits-requires c κs = search needs
+
+sub-left : tie.Need-sub-left Inv-loop μ-loop
+sub-left c = search needs
+
+loop-less : tie.Need-loop-less Inv-loop μ-loop
+loop-less c = search needs
+
+loop-again : tie.Need-loop-again Inv-loop μ-loop
+loop-again c =
+    let put = c .before .before .put-bits in
+    let turn = c .before .before .before .before in
+    let l = turn .before .loop in (
+      search needs,
+      put .kept .0 ∙ l .inv .1,
+      rw (put .ensures .0, put .ensures .1)
+          (run-laid (l .out) (l .p) 14 8192 _ _ (read-byte (l .left) (turn .loop-test .taken)) ∙ l .inv .2),
+    )
+
+same-length : tie.Need-same-length Inv-loop μ-loop
+same-length c = c .before .loop .inv .1
+
+returns : tie.Need-returns Inv-loop μ-loop
+returns c = (search needs, rw (no-reads _ (c .loop-test .left)) at (c .before .loop .inv .2))
+
+pub put-reads-spec : {M : Type 1} → statement M
+put-reads-spec =
+    tie.close
+    (tie.spec
+    Inv-loop
+    μ-loop
+    loop-holds
+    put-bits-requires
+    sub-left
+    loop-less
+    loop-again
+    same-length
+    returns)

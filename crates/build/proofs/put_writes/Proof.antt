@@ -1,0 +1,78 @@
+-- `build::put_writes` meets its contract. The loop's invariant: the bytes that are left, laid on the buffer of now, are all the bytes
+-- laid on the first buffer. Assumes nothing.
+use mathlib.Core.List.{map}
+use mathlib.Core.Path.{_≡_, refl, sym, ap, _∙_}
+use Prim.Native.Nat.{_+_, _-_, _*_, _≤_}
+use native.Mathlib.Omega.{arith}
+use borrow.Author.Needs.{needs}
+use lib.ListN.{length, drop}
+use lib.Seq.{sets}
+use Rattle.build.proofs.Columns.{run-laid}
+use Rattle.build.proofs.Rows.{no-writes, write-left}
+use Rattle.line.specs.Bits.{num}
+use Rattle.line.specs.Building.{writeBytes}
+use Rattle.build.proofs.put_writes.Statement.{statement}
+use Rattle.build.proofs.put_writes.Tie as tie
+
+abbrev Inv-loop : tie.InvT-loop
+Inv-loop out₀ at bytes p₀ i₀ out p i =
+    (i ≤ length bytes) × (p + 14 * (length bytes - i) ≡ at + 14 * length bytes) × (length out ≡ length out₀)
+    × (sets out p (map num (writeBytes (drop i bytes))) ≡ sets out₀ at (map num (writeBytes bytes)))
+
+abbrev μ-loop : tie.MeasureT-loop
+μ-loop out₀ at bytes p₀ i₀ out p i = length bytes - i
+
+loop-holds : tie.Need-loop-holds Inv-loop μ-loop
+loop-holds c = search needs
+
+shared-slice-read-written : tie.Need-shared-slice-read-written Inv-loop μ-loop
+shared-slice-read-written c = search needs
+
+written-requires : tie.Need-written-requires Inv-loop μ-loop
+written-requires c κs = search needs
+
+put-bits-requires : tie.Need-put-bits-requires Inv-loop μ-loop
+put-bits-requires c κs = search needs
+
+add-i : tie.Need-add-i Inv-loop μ-loop
+add-i c = search needs
+
+loop-less : tie.Need-loop-less Inv-loop μ-loop
+loop-less c = search needs
+
+loop-again : tie.Need-loop-again Inv-loop μ-loop
+loop-again c =
+    let put = c .before .before .put-bits in
+    let made = c .before .before .before .written in
+    let known = c .before .before .before .before .shared-slice-known2 .given in
+    let turn = c .before .before .before .before .before .before in
+    let l = turn .before .loop in (
+      search needs,
+      search needs,
+      put .kept .0 ∙ l .inv .2,
+      rw (put .ensures .0, put .ensures .1, made .ensures)
+          (run-laid (l .out) (l .p) 14 _ _ _ (write-left _ (l .i) (turn .loop-test .taken) (omega (arith, known (l .i))))
+          ∙ l .inv .3),
+    )
+
+same-length : tie.Need-same-length Inv-loop μ-loop
+same-length c = c .before .loop .inv .2
+
+returns : tie.Need-returns Inv-loop μ-loop
+returns c = (search needs, rw (no-writes _ _ (c .loop-test .left)) at (c .before .loop .inv .3))
+
+pub put-writes-spec : {M : Type 1} → statement M
+put-writes-spec =
+    tie.close
+    (tie.spec
+    Inv-loop
+    μ-loop
+    loop-holds
+    shared-slice-read-written
+    written-requires
+    put-bits-requires
+    add-i
+    loop-less
+    loop-again
+    same-length
+    returns)

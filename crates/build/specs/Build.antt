@@ -1,0 +1,37 @@
+-- The job build: when it refuses, and what it makes. The rows themselves are line's (specs/Building).
+use mathlib.Core.Path.{_≡_}
+use mathlib.Core.Bool.{Bool, cond, _||_}
+use mathlib.Core.List.{List, map}
+use Prim.Native.Nat.{ℕ, _+_, _-_, _*_}
+use lib.Dec.{ltb, eqb}
+use lib.ListN.{length}
+use Rattle.line.specs.Limits.{idCount, registerCount, byteLimit}
+use Rattle.line.specs.Bits.{num}
+use Rattle.line.specs.Building.{Request, read, write, command, rowFor}
+use Rattle.job.specs.Outcome.{outcome, leaves}
+use Rattle.job.specs.declared.Outcome.{Outcome}
+
+-- Refusal 10: "id over 7, address over 127, .. count 0 or over 64, or address + count over 128".
+unfoldable pub outsideAccess : (id address count : ℕ) → Bool
+outsideAccess id address count =
+    ltb (idCount - 1) id || ltb (registerCount - 1) address || eqb count 0 || ltb byteLimit count
+    || ltb registerCount (address + count)
+
+-- Refusal 10, of a command: "CMD over 3".
+unfoldable pub outside : Request → Bool
+outside (read id address count) = outsideAccess id address count
+outside (write id address bytes) = outsideAccess id address (length bytes)
+outside (command ids cmd) = ltb 3 cmd
+
+-- The row's bytes, a column each.
+unfoldable pub made : Request → List ℕ
+made r = map num (rowFor r)
+
+-- "Build: 10, 9." Refusal 9: "the result needs more room than was lent, and only then".
+unfoldable pub refusal : Request → (room : ℕ) → ℕ
+refusal r room = cond (outside r) 10 (cond (ltb room (length (made r))) 9 0)
+
+-- What build answers to a request, and what it leaves in the lent row.
+pub record Built (r : Request) (lent : List ℕ) (answer : Outcome) (after : List ℕ) : Type 0 where
+  pub answers : answer ≡ outcome (refusal r (length lent)) (length (made r))
+  pub leaves-row : after ≡ leaves (refusal r (length lent)) (made r) lent

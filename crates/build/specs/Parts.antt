@@ -1,0 +1,26 @@
+-- The parts of a row that build's helpers lay, for their contracts: nothing here is needed to read what build promises.
+use mathlib.Core.Path.{_≡_}
+use mathlib.Core.Bool.{Bool, true, false, cond}
+use mathlib.Core.List.{List, _∷_, _++_, map}
+use Prim.Native.Nat.{ℕ, _+_, _*_}
+use lib.Dec.{ltb, eqb}
+use lib.ListN.{length, replicate}
+use lib.Seq.{sets}
+use Rattle.line.specs.Limits.{restZeros}
+use Rattle.line.specs.Bits.{num, bits}
+use Rattle.line.specs.Header.{accessWord}
+use Rattle.line.specs.Building.{opening}
+use Rattle.build.specs.Build.{outsideAccess}
+
+-- Fourteen zeros, S and the header.
+unfoldable pub lead : ℕ → List Bool
+lead header = replicate restZeros false ++ opening header
+
+-- Building: "Reading n bytes takes 32 + 14n columns, writing n lent bytes likewise".
+unfoldable pub accessRefusal : (id address count room : ℕ) → ℕ
+accessRefusal id address count room = cond (outsideAccess id address count) 10 (cond (ltb room (32 + 14 * count)) 9 0)
+
+-- A register access refused, or its first 32 columns laid.
+pub record Begun (id address count way : ℕ) (lent : List ℕ) (why : ℕ) (after : List ℕ) : Type 0 where
+  pub refuses : why ≡ accessRefusal id address count (length lent)
+  pub leads : after ≡ cond (eqb why 0) (sets lent 0 (map num (lead (accessWord id address) ++ bits 2 way))) lent

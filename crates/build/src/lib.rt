@@ -1,0 +1,164 @@
+// The job build: a master row for one request, fourteen zeros and one frame. Each call answers Made with the number of columns, or
+// Refused with 10 or 9 and the lent row as it was.
+ghost use mathlib.Core.Path.{_≡_};
+ghost use mathlib.Core.List.{map, _++_};
+ghost use Prim.Native.Nat.{_+_, _*_, _^_, _≤_, _<_};
+ghost use lib.ListN.{length};
+ghost use lib.Seq.{sets};
+ghost use Rattle.line.specs.Bits.{num, bits};
+ghost use Rattle.line.specs.Division.{headerBits, dataBits, check, word};
+ghost use Rattle.line.specs.Building.{Request, readBytes, writeBytes};
+ghost use Rattle.line.specs.Header.{accessWord};
+ghost use Rattle.build.specs.Build.{outsideAccess, Built};
+ghost use Rattle.build.specs.Parts.{accessRefusal, lead, Begun};
+use job::Outcome;
+
+// Read `count` registers of the slave `id`, from `address` on.
+pub fn build_read(id: u8, address: u8, count: usize, out: &mut [u8]) -> Outcome
+    ensures { λ r. ⌜ Built (Request.read id address count) (now (out .entry)) r (now (out .exit)) ⌝ }
+{
+    let why = begin(out, id, address, count, 2);
+    if why != 0 {
+        return Outcome::Refused(why);
+    }
+    let n = put_reads(out, 32, count);
+    Outcome::Made(n)
+}
+
+// Write `bytes` to the registers of the slave `id`, from `address` on.
+pub fn build_write(id: u8, address: u8, bytes: &[u8], out: &mut [u8]) -> Outcome
+    ensures { λ r. ⌜ Built (Request.write id address (now (bytes .entry))) (now (out .entry)) r (now (out .exit)) ⌝ }
+{
+    let why = begin(out, id, address, bytes.len(), 1);
+    if why != 0 {
+        return Outcome::Refused(why);
+    }
+    let n = put_writes(out, 32, bytes);
+    Outcome::Made(n)
+}
+
+// Send the command `cmd` to the slaves that `ids` selects, all of them where it is 0.
+pub fn build_command(ids: u8, cmd: u8, out: &mut [u8]) -> Outcome
+    ensures { λ r. ⌜ Built (Request.command ids cmd) (now (out .entry)) r (now (out .exit)) ⌝ }
+{
+    if 3 < cmd {
+        return Outcome::Refused(10);
+    }
+    if out.len() < 30 {
+        return Outcome::Refused(9);
+    }
+    let start = opening(ids as u16 * 4 + cmd as u16);
+    let n = put_bits(out, 0, 30, start);
+    Outcome::Made(n)
+}
+
+// Answers why a register access of so many bytes is refused; where it is not, answers 0 and puts its first 32 columns.
+fn begin(out: &mut [u8], id: u8, address: u8, count: usize, way: u64) -> u8
+    requires { ⌜ way < 4 ⌝ }
+    ensures { λ r. ⌜ Begun id address count way (now (out .entry)) r (now (out .exit)) ⌝ }
+{
+    let why = refusal(id, address, count, out.len());
+    if why == 0 {
+        put_access(out, id, address, way);
+    }
+    why
+}
+
+// 10 or 9, or 0 where a register access of so many bytes is refused by neither.
+fn refusal(id: u8, address: u8, count: usize, room: usize) -> u8
+    ensures { λ r. ⌜ r ≡ accessRefusal id address count room ⌝ }
+{
+    if outside(id, address, count) {
+        10
+    } else if room < 32 + 14 * count {
+        9
+    } else {
+        0
+    }
+}
+
+fn outside(id: u8, address: u8, count: usize) -> bool
+    ensures { λ r. ⌜ r ≡ outsideAccess id address count ⌝ }
+{
+    if 7 < id {
+        return true;
+    }
+    if 127 < address {
+        return true;
+    }
+    if count == 0 {
+        return true;
+    }
+    if 64 < count {
+        return true;
+    }
+    let end = address as usize + count;
+    128 < end
+}
+
+// Fourteen zeros, S, the header, R and W, which are the two bits of `way`; answers the column behind them.
+fn put_access(out: &mut [u8], id: u8, address: u8, way: u64) -> usize
+    requires { ⌜ (32 ≤ length (now out)) × (id < 8) × (address < 128) × (way < 4) ⌝ }
+    ensures { λ r. ⌜ (r ≡ 32) × (now (out .exit) ≡ sets (now (out .entry)) 0 (map num (lead (accessWord id address) ++ bits 2 way))) ⌝ }
+{
+    let start = opening(1024 + id as u16 * 128 + address as u16);
+    put_bits(out, 0, 32, 4 * start + way)
+}
+
+// S and the header of eleven bits with their check, as one number of sixteen bits.
+fn opening(header: u16) -> u64
+    requires { ⌜ header < 2048 ⌝ }
+    ensures { λ r. ⌜ (r ≡ 2 ^ 15 + word headerBits header) × (r < 2 ^ 16) ⌝ }
+{
+    32768 + 16 * header as u64 + checkbits::header_check(header) as u64
+}
+
+// For each byte S, twelve zeros and P.
+fn put_reads(out: &mut [u8], at: usize, count: usize) -> usize
+    requires { ⌜ at + 14 * count ≤ length (now out) ⌝ }
+    ensures { λ r. ⌜ (r ≡ at + 14 * count) × (now (out .exit) ≡ sets (now (out .entry)) at (map num (readBytes count))) ⌝ }
+{
+    let mut p = at;
+    let mut left = count;
+    while 0 < left {
+        p = put_bits(out, p, 14, 8192);
+        left -= 1;
+    }
+    p
+}
+
+// For each byte S, the byte with its check, and P.
+fn put_writes(out: &mut [u8], at: usize, bytes: &[u8]) -> usize
+    requires { ⌜ at + 14 * length (now bytes) ≤ length (now out) ⌝ }
+    ensures { λ r. ⌜ (r ≡ at + 14 * length (now (bytes .entry))) × (now (out .exit) ≡ sets (now (out .entry)) at (map num (writeBytes (now (bytes .entry))))) ⌝ }
+{
+    let mut p = at;
+    let mut i = 0;
+    while i < bytes.len() {
+        p = put_bits(out, p, 14, written(bytes[i]));
+        i += 1;
+    }
+    p
+}
+
+// S, a byte with its check, and P, as one number of fourteen bits.
+fn written(b: u8) -> u64
+    ensures { λ r. ⌜ r ≡ 8192 + 32 * b + 2 * check dataBits b ⌝ }
+{
+    8192 + 32 * b as u64 + 2 * checkbits::byte_check(b) as u64
+}
+
+// Puts the lowest n bits of w at `at`, highest first, a column each, and answers the column behind them.
+fn put_bits(out: &mut [u8], at: usize, n: usize, w: u64) -> usize
+    requires { ⌜ (at + n ≤ length (now out)) × (n ≤ 32) ⌝ }
+    ensures { λ r. ⌜ (r ≡ at + n) × (now (out .exit) ≡ sets (now (out .entry)) at (map num (bits n w))) ⌝ }
+{
+    let mut left = n;
+    let mut p = at;
+    while 0 < left {
+        left -= 1;
+        out[p] = ((w >> left) % 2) as u8;
+        p += 1;
+    }
+    p
+}
