@@ -16,7 +16,7 @@ use Rattle.line.specs.Slave.{Slave, more}
 use Rattle.line.specs.Chain.{column, memories, switchedOn}
 use Rattle.line.specs.Entries.{Kind, Entry, entry, note}
 
--- A byte's columns are counted down to 0, its last check bit.
+-- Where the frame is, for the chain as a whole; the fields are those of Slave and Reader.
 pub data Phase : Type 0 where
   deaf : Phase
   locks : (column so-far : ℕ) → Phase
@@ -27,13 +27,16 @@ pub data Phase : Type 0 where
   carries : (write : Bool) → (id address nth left so-far : ℕ) → Phase
   askP : (write good : Bool) → (id address nth : ℕ) → Phase
 
+-- What a column makes of the account: its next phase, and perhaps an entry.
 pub record Told : Type 0 where
   pub next : Phase
   pub says : Option Entry
 
+-- On to the next phase, and no entry ..
 abbrev pub go : Phase → Told
 go p = record { next = p; says = none }
 
+-- .. or with one.
 abbrev pub gives : Entry → Phase → Told
 gives e p = record { next = p; says = some e }
 
@@ -41,6 +44,7 @@ gives e p = record { next = p; says = some e }
 abbrev pub slaveAt : List Memory → ℕ → Option Memory
 slaveAt ks id = getElem? ks id
 
+-- badhead and command, at the header's last column, as in Reader.
 unfoldable pub headed : (c : ℕ) → Header → Told
 headed c wrong = gives (entry Kind.badhead c 0 0 0) deaf
 headed c (command ids cmd) = gives (entry Kind.command c cmd 0 ids) deaf
@@ -57,10 +61,12 @@ abbrev pub heldAt : Option Memory → ℕ → ℕ
 heldAt none address = 0
 heldAt (some k) address = holds k address
 
+-- P of a slave that may be there.
 abbrev pub moreAt : Option Memory → (write : Bool) → (address nth : ℕ) → Bool
 moreAt none write address nth = false
 moreAt (some k) write address nth = more k write address nth
 
+-- One column of a frame, from the master's bit and the memories.
 unfoldable pub tell : (c : ℕ) → List Memory → Phase → (m : Bool) → Told
 tell c ks deaf m = go deaf
 tell c ks (locks column so-far) m =
@@ -83,21 +89,26 @@ tell c ks (askP write good id address nth) m =
     cond (good && moreAt (slaveAt ks id) write address nth) (go (byteS write id (address + 1) (nth + 1)))
     (gives (entry Kind.closed c id address 0) deaf)
 
+-- What a column makes of the account behind the timer.
 pub record Step : Type 0 where
   pub state : Timed Phase
   pub says : Option Entry
 
+-- A column told in a frame, with z zeros counted.
 abbrev pub told : ℕ → Told → Step
 told z t = record { state = frame z (t .next); says = t .says }
 
+-- end: "the fourteenth zero after a frame was begun".
 abbrev pub stepped : (c : ℕ) → List Memory → Judged Phase → (m : Bool) → Step
 stepped c ks (still s) m = record { state = s; says = none }
 stepped c ks ends m = record { state = rest; says = some (entry Kind.end c 0 0 0) }
 stepped c ks (meant z p) m = told z (tell c ks p m)
 
+-- The phase after S.
 abbrev pub begun : Phase
 begun = locks 1 0
 
+-- One column of the account: the fourteenth zero is judged first.
 unfoldable pub step : (c : ℕ) → List Memory → Timed Phase → (m : Bool) → Step
 step c ks s m = stepped c ks (judge begun s m) m
 
@@ -108,5 +119,6 @@ along ss s c (m ∷ ms) =
     note (step c (memories ss) s m .says)
     (along (column ss m .slaves) (step c (memories ss) s m .state) (suc c) ms)
 
+-- Entries: "The chain's account", of a master row from power-on.
 unfoldable pub account : List Memory → List Bool → List Entry
 account ks row = along (switchedOn ks) powerOn 0 row

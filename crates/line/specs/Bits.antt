@@ -9,9 +9,11 @@ abbrev pub num : Bool → ℕ
 num true = 1
 num false = 0
 
+-- .. and back: the bit of a row's byte.
 abbrev pub bitOf : ℕ → Bool
 bitOf byte = eqb byte 1
 
+-- A row of bytes as a row of bits.
 unfoldable pub rowOf : List ℕ → List Bool
 rowOf bytes = map bitOf bytes
 

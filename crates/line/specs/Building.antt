@@ -21,15 +21,17 @@ pub data Request : Type 0 where
 abbrev pub opening : ℕ → List Bool
 opening v = true ∷ bits headerColumns (word headerBits v)
 
--- "P is 0, and in a read the twelve bits too."
+-- Reading, for each byte S, the twelve bits and P: "P is 0, and in a read the twelve bits too."
 unfoldable pub readBytes : ℕ → List Bool
 readBytes zero = []
 readBytes (suc n) = true ∷ replicate (topBit + 1) false ++ false ∷ readBytes n
 
+-- Writing, for each byte S, the byte with its check, and P = 0.
 unfoldable pub writeBytes : List ℕ → List Bool
 writeBytes [] = []
 writeBytes (v ∷ vs) = true ∷ bits (topBit + 1) (word dataBits v) ++ false ∷ writeBytes vs
 
+-- The frame of a request; R = 1, W = 0 reads, R = 0, W = 1 writes.
 unfoldable pub frameOf : Request → List Bool
 frameOf (read id address count) = opening (accessWord id address) ++ true ∷ false ∷ readBytes count
 frameOf (write id address vs) = opening (accessWord id address) ++ false ∷ true ∷ writeBytes vs

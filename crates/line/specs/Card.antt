@@ -11,6 +11,7 @@ use Rattle.line.specs.Chain.{answersFrom}
 use Rattle.line.specs.Entries.{Entry}
 use Rattle.line.specs.Reader.{columns, listFrom}
 
+-- What the card asks for: a byte's check, an access's or a broadcast's, or the locks of so many slaves.
 pub data Case : Type 0 where
   byte : (value : ℕ) → Case
   access : (id address : ℕ) → Case
@@ -21,9 +22,11 @@ pub data Case : Type 0 where
 abbrev pub lockRow : List Bool
 lockRow = replicate restZeros false ++ true ∷ replicate lockLast false
 
+-- A slave with nothing in its registers and no rights.
 abbrev pub blank : Memory
 blank = record { registers = replicate registerCount 0; rights = replicate registerCount 0 }
 
+-- The values of a list's entries.
 abbrev pub values : List Entry → List ℕ
 values es = map (λ e. e .value) es
 
@@ -34,10 +37,12 @@ found (access id address) = check headerBits (accessWord id address) ∷ []
 found (broadcast cmd) = check headerBits (commandWord 0 cmd) ∷ []
 found (slaves count) = values (listFrom 0 (columns lockRow (answersFrom (replicate count blank) lockRow)))
 
+-- A line of the card: a case and its value.
 pub record Line : Type 0 where
   pub case : Case
   pub value : ℕ
 
+-- A line by its two parts.
 abbrev line : Case → ℕ → Line
 line case value = record { case = case; value = value }
 

@@ -16,10 +16,11 @@ unfoldable pub divide : (width polynomial : ℕ) → ℕ → ℕ → ℕ → ℕ
 divide width polynomial zero v r = r
 divide width polynomial (suc n) v r = divide width polynomial n v (feed width polynomial r (bit n v))
 
--- Check bits: "House rule: the header's check covers the eleven bits from CTS on. A data byte's check covers its eight bits only".
+-- Check bits: "House rule: the header's check covers the eleven bits from CTS on."
 abbrev pub headerBits : ℕ
 headerBits = 11
 
+-- Check bits: "A data byte's check covers its eight bits only (000)."
 abbrev pub dataBits : ℕ
 dataBits = 8
 
@@ -31,6 +32,7 @@ checkWidth = 4
 abbrev pub polynomial : ℕ
 polynomial = 0x13
 
+-- The remainder of the n bits of v, from start value 0.
 unfoldable pub remainder : ℕ → ℕ → ℕ
 remainder n v = divide checkWidth polynomial n v 0
 
@@ -52,4 +54,4 @@ byteOf w = w / 2 ^ checkWidth % 2 ^ dataBits
 
 -- The twelve bits are counted down to 0, the last check bit.
 abbrev pub topBit : ℕ
-topBit = 11
+topBit = dataBits + checkWidth - 1

@@ -25,6 +25,7 @@ pub record Line : Type 0 where
   pub has-address : Bool
   pub has-value : Bool
 
+-- A line by its parts.
 abbrev pub line : ℕ → String → (has-id has-address has-value : Bool) → Line
 line number name i a v = record { number = number; name = bytes name; has-id = i; has-address = a; has-value = v }
 
@@ -47,9 +48,11 @@ table echo = line 14 "echo" true true true
 table end = line 15 "end" false false false
 table closed = line 16 "closed" true true false
 
+-- A kind's number.
 abbrev pub number : Kind → ℕ
 number k = table k .number
 
+-- All kinds, in the table's order.
 abbrev pub kinds : List Kind
 kinds =
     lock ∷ lockodd ∷ badhead ∷ command ∷ pair ∷ absent ∷ refused ∷ odd ∷ mute ∷ read ∷ written ∷ readbad ∷ writebad ∷ echo ∷ end
@@ -89,6 +92,7 @@ unfoldable pub numbered : ℕ → List Kind → Option Kind
 numbered n [] = none
 numbered n (k ∷ ks) = cond (eqb (number k) n) (some k) (numbered n ks)
 
+-- An entry by its fields, if its number is a kind's.
 abbrev pub entryOf : Option Kind → (column id address value : ℕ) → Option Entry
 entryOf none column id address value = none
 entryOf (some k) column id address value =

@@ -9,13 +9,15 @@ use Prim.Native.Nat.{ℕ, _+_, _*_, _/_, _%_, _^_}
 use Rattle.line.specs.Bits.{bit}
 use Rattle.line.specs.Division.{headerBits, checkWidth, fits}
 
--- Header: "CTS = 1 is a register access: ID (3 bits), address (7). CTS = 0 is a command: IDS (8), CMD (2)."
+-- Header: "CTS = 1 is a register access: ID (3 bits), address (7)."
 abbrev pub accessWord : ℕ → ℕ → ℕ
 accessWord id address = 2 ^ 10 + id * 2 ^ 7 + address
 
+-- Header: "CTS = 0 is a command: IDS (8), CMD (2). Highest bit first. IDS = 0 is a broadcast."
 abbrev pub commandWord : ℕ → ℕ → ℕ
 commandWord ids cmd = ids * 2 ^ 2 + cmd
 
+-- What a header may say, or that its check is wrong.
 pub data Header : Type 0 where
   wrong : Header
   access : (id address : ℕ) → Header

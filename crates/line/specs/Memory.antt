@@ -14,8 +14,10 @@ pub record Memory : Type 0 where
 unfoldable pub allows : Memory → (write : Bool) → ℕ → Bool
 allows k write address = bit (num write) (getD (k .rights) address 0)
 
+-- What stands in a register.
 unfoldable pub holds : Memory → ℕ → ℕ
 holds k address = getD (k .registers) address 0
 
+-- The memory with one register changed; the rights stay.
 unfoldable pub stored : Memory → ℕ → ℕ → Memory
 stored k address value = record { registers = set (k .registers) address value; rights = k .rights }

@@ -48,9 +48,11 @@ pub record Look : Type 0 where
   pub next : Phase
   pub says : Option Entry
 
+-- On to the next phase, and no entry ..
 abbrev pub go : Phase → Look
 go p = record { next = p; says = none }
 
+-- .. or with one.
 abbrev pub gives : Entry → Phase → Look
 gives e p = record { next = p; says = some e }
 
@@ -129,10 +131,12 @@ look c (askP write id address nth) m false =
     cond (ltb (address + 1) registerCount && ltb nth byteLimit) (go (byteS write id (address + 1) (nth + 1)))
     (gives (entry Kind.odd c id address 4) deaf)
 
+-- What a column makes of the reader behind the timer.
 pub record Step : Type 0 where
   pub state : Timed Phase
   pub says : Option Entry
 
+-- A look taken in a frame, with z zeros counted.
 abbrev pub looked : ℕ → Look → Step
 looked z l = record { state = frame z (l .next); says = l .says }
 
@@ -142,9 +146,11 @@ stepped c (still s) m x = record { state = s; says = none }
 stepped c ends m x = record { state = rest; says = some (entry Kind.end c 0 0 0) }
 stepped c (meant z p) m x = looked z (look c p m x)
 
+-- The phase after S: no lock seen, no header bit.
 abbrev pub begun : Phase
 begun = locks 1 0 ones
 
+-- One column of the reader: the fourteenth zero is judged first.
 unfoldable pub step : (c : ℕ) → Timed Phase → (m x : Bool) → Step
 step c s m x = stepped c (judge begun s m) m x
 
@@ -152,6 +158,7 @@ step c s m x = stepped c (judge begun s m) m x
 pub data Column : Type 0 where
   col : (m x : Bool) → Column
 
+-- Two rows, column by column.
 unfoldable pub columns : List Bool → List Bool → List Column
 columns [] xs = []
 columns (m ∷ ms) [] = []

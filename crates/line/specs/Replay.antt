@@ -15,26 +15,30 @@ storedAt [] id address value = []
 storedAt (k ∷ ks) zero address value = stored k address value ∷ ks
 storedAt (k ∷ ks) (suc id) address value = k ∷ storedAt ks id address value
 
+-- An entry is of a kind.
 abbrev pub is : Kind → Entry → Bool
 is k e = eqb (number (e .kind)) (number k)
 
--- Demand 3: "its writes replayed on the starting registers".
+-- A `written` entry puts its value at its ID and address; any other changes nothing.
 unfoldable pub put : List Memory → Entry → List Memory
 put ks e = cond (is Kind.written e) (storedAt ks (e .id) (e .address) (e .value)) ks
 
+-- Demand 3: "its writes replayed on the starting registers".
 unfoldable pub replay : List Memory → List Entry → List Memory
 replay ks [] = ks
 replay ks (e ∷ es) = replay (put ks e) es
 
--- Demand 3: "each read shows the byte that stood there then": in the replay of the entries before it.
+-- A value stands at an address of a slave that is there.
 abbrev pub standsAt : Option Memory → (address value : ℕ) → Type 0
 standsAt none address value = ⊥
 standsAt (some k) address value = holds k address ≡ value
 
+-- What a read shows stands there; of other entries nothing is asked.
 abbrev pub whenRead : Bool → List Memory → Entry → Type 0
 whenRead Bool.true ks e = standsAt (getElem? ks (e .id)) (e .address) (e .value)
 whenRead Bool.false ks e = Unit {0}
 
+-- Demand 3: "each read shows the byte that stood there then": in the replay of the entries before it.
 unfoldable pub Shows : List Memory → List Entry → Type 0
 Shows ks [] = Unit {0}
 Shows ks (e ∷ es) = whenRead (is Kind.read e) ks e × Shows (put ks e) es

@@ -27,15 +27,17 @@ pub data Judged (P : Type 0) : Type 0 where
   ends : Judged P  -- the fourteenth zero after a frame was begun
   meant : ℕ → P → Judged P  -- a column of a frame: for the phase to say
 
+-- Rest: "ones then mean nothing": at power-on the zeros alone count.
 abbrev pub waiting : {P : Type 0} → Option ℕ → Judged P
 waiting none = still rest
 waiting (some z) = still (power z)
 
+-- Rest: "Fourteen CDM zeros in a row end anything": in a frame too, whatever its phase.
 abbrev pub running : {P : Type 0} → Option ℕ → P → Judged P
 running none p = ends
 running (some z) p = meant z p
 
--- Rest: "ones then mean nothing"; "they stay there while zeros last". Start: "The first 1 after rest is the start bit S".
+-- Rest: "they stay there while zeros last". Start: "The first 1 after rest is the start bit S"; a frame's first phase is `begun`.
 unfoldable pub judge : {P : Type 0} → P → Timed P → Bool → Judged P
 judge begun (power z) m = waiting (timer z m)
 judge begun rest false = still rest

@@ -15,6 +15,7 @@ Zeros (suc n) [] = ⊥
 Zeros (suc n) (true ∷ ms) = ⊥
 Zeros (suc n) (false ∷ ms) = Zeros n ms
 
+-- A run of fourteen zeros begins at column j.
 abbrev pub RunAt : List Bool → ℕ → Type 0
 RunAt row j = Zeros restZeros (drop j row)
 

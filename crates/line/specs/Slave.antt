@@ -10,6 +10,8 @@ use Rattle.line.specs.Division.{dataBits, topBit, word, fits, byteOf}
 use Rattle.line.specs.Header.{Header, wrong, access, command, header}
 use Rattle.line.specs.Memory.{Memory, allows, holds, stored}
 
+-- Where a slave is in a frame. `column` counts from 1 after S; `so-far` and `what` are the bits taken, and those to send, as a number;
+-- `nth` is the byte's place in the access, from 1; `left` counts a byte's bits down.
 pub data Phase : Type 0 where
   deaf : Phase
   locks : (column so-far : ℕ) → (number : Option ℕ) → Phase
@@ -27,10 +29,11 @@ pub record Turn : Type 0 where
   pub sent : Bool
   pub memory : Memory
 
+-- A turn by its three parts.
 abbrev pub turn : Phase → Bool → Memory → Turn
 turn p b k = record { next = p; sent = b; memory = k }
 
--- A lock column makes of a slave: the number it holds then, and the bit it sends.
+-- What a lock column makes of a slave: the number it holds then, and the bit it sends.
 pub record Lock : Type 0 where
   pub number : Option ℕ
   pub sent : Bool
@@ -65,6 +68,7 @@ more k write address nth = ltb (address + 1) registerCount && allows k write (ad
 abbrev pub took : Memory → (address word : ℕ) → Memory
 took k address word = cond (fits dataBits word) (stored k address (byteOf word)) k
 
+-- What a slave in a frame does in one column, in the paper's order.
 unfoldable pub speak : Memory → Phase → (m b : Bool) → Turn
 -- Chain: "A deaf slave passes bits on and stores nothing until rest."
 speak k deaf m b = turn deaf b k
@@ -97,17 +101,21 @@ speak k (takes address nth zero so-far) m b =
 speak k (askP write good address nth) m b =
     cond (good && more k write address nth) (turn (byteS write (address + 1) (nth + 1)) false k) (turn deaf true k)
 
+-- A slave: its memory, and where it is.
 pub record Slave : Type 0 where
   pub memory : Memory
   pub state : Timed Phase
 
+-- A slave by its two parts.
 abbrev pub slave : Memory → Timed Phase → Slave
 slave k s = record { memory = k; state = s }
 
+-- What a column makes of it: the slave afterwards, and the bit that goes on towards the master.
 pub record Step : Type 0 where
   pub slave : Slave
   pub sent : Bool
 
+-- A turn taken in a frame, with z zeros counted.
 abbrev pub spoken : ℕ → Turn → Step
 spoken z t = record { slave = slave (t .memory) (frame z (t .next)); sent = t .sent }
 
@@ -121,5 +129,6 @@ stepped k (meant z p) m b = spoken z (speak k p m b)
 abbrev pub begun : Phase
 begun = locks 1 0 none
 
+-- Chain: one column of one slave; the fourteenth zero is judged first.
 unfoldable pub step : Slave → (m b : Bool) → Step
 step s m b = stepped (s .memory) (judge begun (s .state) m) m b
