@@ -1,6 +1,6 @@
 -- Replay: a list's written bytes put back, in order, on starting registers; and what a read shows of it.
 use mathlib.Core.Path.{_≡_}
-use mathlib.Core.Bool.{Bool, cond}
+use mathlib.Core.Bool.{Bool, true, false, cond}
 use mathlib.Core.List.{List, [], _∷_}
 use mathlib.Core.Option.{Option, none, some}
 use Prim.Native.Nat.{ℕ, zero, suc}
@@ -35,8 +35,8 @@ standsAt (some k) address value = holds k address ≡ value
 
 -- What a read shows stands there; of other entries nothing is asked.
 abbrev pub whenRead : Bool → List Memory → Entry → Type 0
-whenRead Bool.true ks e = standsAt (getElem? ks (e .id)) (e .address) (e .value)
-whenRead Bool.false ks e = Unit {0}
+whenRead true ks e = standsAt (getElem? ks (e .id)) (e .address) (e .value)
+whenRead false ks e = Unit {0}
 
 -- Demand 3: "each read shows the byte that stood there then": in the replay of the entries before it.
 unfoldable pub Shows : List Memory → List Entry → Type 0
