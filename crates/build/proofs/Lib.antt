@@ -1,4 +1,7 @@
+-- What is proved of build, beside the proofs of its functions: bits as columns, the rows by their parts, what refusal 10 lets through,
+-- the two ends of a call, and that its promise has one answer.
 pub mod Columns
-pub mod Ends
-pub mod Requests
 pub mod Rows
+pub mod Requests
+pub mod Ends
+mod Unique

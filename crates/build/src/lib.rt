@@ -13,15 +13,43 @@ ghost use Rattle.build.specs.Build.{outsideAccess, Built};
 ghost use Rattle.build.specs.Parts.{accessRefusal, lead, Begun};
 use job::Outcome;
 
+// The limits of refusal 10 (01, Numbers of refusal).
+const LAST_ID: u8 = 7;
+
+const LAST_ADDRESS: u8 = 127;
+
+const LAST_COMMAND: u8 = 3;
+
+const BYTES: usize = 64;
+
+const REGISTERS: usize = 128;
+
+// "Reading n bytes takes 32 + 14n columns, writing n lent bytes likewise, a command 30." (01, Building)
+const ACCESS: usize = 32;
+
+const BYTE: usize = 14;
+
+const COMMAND: usize = 30;
+
+// R and W as one number: R = 1, W = 0 reads; R = 0, W = 1 writes.
+const READS: u64 = 2;
+
+const WRITES: u64 = 1;
+
+// S in front of a header's fifteen bits, and in front of a byte's twelve bits and P.
+const HEADER_START: u64 = 32768;
+
+const BYTE_START: u64 = 8192;
+
 // Read `count` registers of the slave `id`, from `address` on.
 pub fn build_read(id: u8, address: u8, count: usize, out: &mut [u8]) -> Outcome
     ensures { λ r. ⌜ Built (Request.read id address count) (now (out .entry)) r (now (out .exit)) ⌝ }
 {
-    let why = begin(out, id, address, count, 2);
+    let why = begin(out, id, address, count, READS);
     if why != 0 {
         return Outcome::Refused(why);
     }
-    let n = put_reads(out, 32, count);
+    let n = put_reads(out, ACCESS, count);
     Outcome::Made(n)
 }
 
@@ -29,11 +57,11 @@ pub fn build_read(id: u8, address: u8, count: usize, out: &mut [u8]) -> Outcome
 pub fn build_write(id: u8, address: u8, bytes: &[u8], out: &mut [u8]) -> Outcome
     ensures { λ r. ⌜ Built (Request.write id address (now (bytes .entry))) (now (out .entry)) r (now (out .exit)) ⌝ }
 {
-    let why = begin(out, id, address, bytes.len(), 1);
+    let why = begin(out, id, address, bytes.len(), WRITES);
     if why != 0 {
         return Outcome::Refused(why);
     }
-    let n = put_writes(out, 32, bytes);
+    let n = put_writes(out, ACCESS, bytes);
     Outcome::Made(n)
 }
 
@@ -41,14 +69,14 @@ pub fn build_write(id: u8, address: u8, bytes: &[u8], out: &mut [u8]) -> Outcome
 pub fn build_command(ids: u8, cmd: u8, out: &mut [u8]) -> Outcome
     ensures { λ r. ⌜ Built (Request.command ids cmd) (now (out .entry)) r (now (out .exit)) ⌝ }
 {
-    if 3 < cmd {
+    if LAST_COMMAND < cmd {
         return Outcome::Refused(10);
     }
-    if out.len() < 30 {
+    if out.len() < COMMAND {
         return Outcome::Refused(9);
     }
     let start = opening(ids as u16 * 4 + cmd as u16);
-    let n = put_bits(out, 0, 30, start);
+    let n = put_bits(out, 0, COMMAND, start);
     Outcome::Made(n)
 }
 
@@ -70,7 +98,7 @@ fn refusal(id: u8, address: u8, count: usize, room: usize) -> u8
 {
     if outside(id, address, count) {
         10
-    } else if room < 32 + 14 * count {
+    } else if room < ACCESS + BYTE * count {
         9
     } else {
         0
@@ -80,20 +108,20 @@ fn refusal(id: u8, address: u8, count: usize, room: usize) -> u8
 fn outside(id: u8, address: u8, count: usize) -> bool
     ensures { λ r. ⌜ r ≡ outsideAccess id address count ⌝ }
 {
-    if 7 < id {
+    if LAST_ID < id {
         return true;
     }
-    if 127 < address {
+    if LAST_ADDRESS < address {
         return true;
     }
     if count == 0 {
         return true;
     }
-    if 64 < count {
+    if BYTES < count {
         return true;
     }
     let end = address as usize + count;
-    128 < end
+    REGISTERS < end
 }
 
 // Fourteen zeros, S, the header, R and W, which are the two bits of `way`; answers the column behind them.
@@ -102,7 +130,7 @@ fn put_access(out: &mut [u8], id: u8, address: u8, way: u64) -> usize
     ensures { λ r. ⌜ (r ≡ 32) × (now (out .exit) ≡ sets (now (out .entry)) 0 (map num (lead (accessWord id address) ++ bits 2 way))) ⌝ }
 {
     let start = opening(1024 + id as u16 * 128 + address as u16);
-    put_bits(out, 0, 32, 4 * start + way)
+    put_bits(out, 0, ACCESS, 4 * start + way)
 }
 
 // S and the header of eleven bits with their check, as one number of sixteen bits.
@@ -110,7 +138,7 @@ fn opening(header: u16) -> u64
     requires { ⌜ header < 2048 ⌝ }
     ensures { λ r. ⌜ (r ≡ 2 ^ 15 + word headerBits header) × (r < 2 ^ 16) ⌝ }
 {
-    32768 + 16 * header as u64 + checkbits::header_check(header) as u64
+    HEADER_START + 16 * header as u64 + checkbits::header_check(header) as u64
 }
 
 // For each byte S, twelve zeros and P.
@@ -121,7 +149,7 @@ fn put_reads(out: &mut [u8], at: usize, count: usize) -> usize
     let mut p = at;
     let mut left = count;
     while 0 < left {
-        p = put_bits(out, p, 14, 8192);
+        p = put_bits(out, p, BYTE, BYTE_START);
         left -= 1;
     }
     p
@@ -135,7 +163,7 @@ fn put_writes(out: &mut [u8], at: usize, bytes: &[u8]) -> usize
     let mut p = at;
     let mut i = 0;
     while i < bytes.len() {
-        p = put_bits(out, p, 14, written(bytes[i]));
+        p = put_bits(out, p, BYTE, written(bytes[i]));
         i += 1;
     }
     p
@@ -145,7 +173,7 @@ fn put_writes(out: &mut [u8], at: usize, bytes: &[u8]) -> usize
 fn written(b: u8) -> u64
     ensures { λ r. ⌜ r ≡ 8192 + 32 * b + 2 * check dataBits b ⌝ }
 {
-    8192 + 32 * b as u64 + 2 * checkbits::byte_check(b) as u64
+    BYTE_START + 32 * b as u64 + 2 * checkbits::byte_check(b) as u64
 }
 
 // Puts the lowest n bits of w at `at`, highest first, a column each, and answers the column behind them.
