@@ -1,32 +1,32 @@
+-- `run::row_refusal` meets its contract: each answer is the definition at the branch's tests. Assumes nothing.
 use borrow.Author.Needs.{needs}
+use borrow.Author.Tests.{lt-ltb, le-ltb, eq-eqb, ne-eqb}
+use Rattle.line.proofs.Rules.{cases}
+use Rattle.run.specs.Run.{rowRefusal}
 use Rattle.run.proofs.row_refusal.Statement.{statement}
 use Rattle.run.proofs.row_refusal.Tie as tie
-use Rattle.run.proofs.row_refusal.Reads as reads
-use Rattle.run.proofs.row_refusal.Lts as lts
-use Rattle.job.proofs.are_bits.Reads as are-bits-reads
 
--- src/lib.rt:67:15
 are-bits-requires : tie.Need-are-bits-requires
 are-bits-requires c κs = search needs
 
--- src/lib.rt:58:1
 returns : tie.Need-returns
-returns c = ?
+unfolding rowRefusal
+returns c = search cases
 
--- src/lib.rt:58:1
 returns-2 : tie.Need-returns-2
-returns-2 c = ?
+unfolding rowRefusal
+returns-2 c = search cases
 
--- src/lib.rt:58:1
 returns-3 : tie.Need-returns-3
-returns-3 c = ?
+unfolding rowRefusal
+returns-3 c = search cases
 
--- src/lib.rt:58:1
 returns-4 : tie.Need-returns-4
+unfolding rowRefusal
 returns-4 c = ?
 
--- src/lib.rt:58:1
 returns-5 : tie.Need-returns-5
+unfolding rowRefusal
 returns-5 c = ?
 
 pub row-refusal-spec : {M : Type 1} → statement M
