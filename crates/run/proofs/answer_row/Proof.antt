@@ -1,63 +1,99 @@
+-- `run::answer_row` meets its contract. The loop's invariant: the answers so far and those that are left are all of the row's, and what is
+-- left of the row takes the chain of now where the whole row takes the first. Assumes nothing.
+use mathlib.Core.List.{map, _++_}
+use mathlib.Core.Path.{_≡_, refl, sym, ap, _∙_}
+use Prim.Native.Nat.{_+_, _-_, _*_, _≤_}
+use native.Mathlib.Omega.{arith}
+use borrow.Author.Needs.{needs}
+use lib.ListN.{length, length-set, take, drop}
+use Rattle.line.specs.Bits.{num, rowOf}
+use Rattle.line.specs.Chain.{answers, after, switchedOn, answersFrom}
+use Rattle.line.specs.Limits.{slaveLimit}
+use Rattle.run.proofs.Rows.{starts, row-next, after-next, rowed}
+use Rattle.run.specs.Parts.{chainOf}
+use Rattle.run.specs.Run.{memoriesOf}
 use Rattle.run.proofs.answer_row.Statement.{statement}
 use Rattle.run.proofs.answer_row.Tie as tie
-use Rattle.run.proofs.answer_row.Reads as reads
-use Rattle.run.proofs.answer_row.Lts as lts
-use Rattle.run.proofs.pass_column.Reads as pass-column-reads
-use Rattle.slave.proofs.Slave.new.Reads as new-reads
 
 abbrev Inv-loop : tie.InvT-loop
-Inv-loop slaves rights registers₀ cdm cds₀ chain₀ i₀ registers cds chain i = ?
+Inv-loop slaves rights registers₀ cdm cds₀ chain₀ i₀ registers cds chain i =
+    (i ≤ length cdm) × (length chain ≡ slaveLimit) × (length registers ≡ length registers₀) × (length cds ≡ length cds₀) × (take i cds ++ map num (answers (chainOf (take slaves chain) registers rights) (rowOf (drop i cdm))) ≡ map num (answersFrom (memoriesOf slaves registers₀ rights) (rowOf cdm))) × (after (chainOf (take slaves chain) registers rights) (rowOf (drop i cdm)) ≡ after (switchedOn (memoriesOf slaves registers₀ rights)) (rowOf cdm))
 
 abbrev μ-loop : tie.MeasureT-loop
-μ-loop slaves rights registers₀ cdm cds₀ chain₀ i₀ registers cds chain i = ?
+μ-loop slaves rights registers₀ cdm cds₀ chain₀ i₀ registers cds chain i = length cdm - i
 
--- src/lib.rt:79:9
 new-requires : tie.Need-new-requires Inv-loop μ-loop
-new-requires c κs = ?
+new-requires c κs = search needs
 
--- src/lib.rt:82:5
 loop-holds : tie.Need-loop-holds Inv-loop μ-loop
-loop-holds c = ?
+unfolding answersFrom
+loop-holds c =
+    let start = c .before .before .before .before .before in
+    let a = start .args in
+    let e = starts (c .new .result) (c .new .ensures) (a .slaves) slaveLimit (a .registers .now) (a .rights .now) (start .pre .0 .few) in
+    (search needs, refl, refl, refl, rw e, rw e)
 
--- src/lib.rt:83:49
 shared-slice-read-pass-column : tie.Need-shared-slice-read-pass-column Inv-loop μ-loop
-shared-slice-read-pass-column c = ?
+shared-slice-read-pass-column c = search needs
 
--- src/lib.rt:83:13
 pass-column-requires : tie.Need-pass-column-requires Inv-loop μ-loop
-pass-column-requires c κs = ?
+pass-column-requires c κs =
+    let l = c .before .before .before .loop in
+    let holds = c .before .before .before .before .before .before .before .before .before .pre .0 in
+    record { few = holds .few; all-registers = l .inv .2 ∙ holds .all-registers; all-rights = holds .all-rights }
 
--- src/lib.rt:86:18
 cast-cds : tie.Need-cast-cds Inv-loop μ-loop
-cast-cds c = ?
+cast-cds c = search needs
 
--- src/lib.rt:86:9
 slice-write-cds : tie.Need-slice-write-cds Inv-loop μ-loop
-slice-write-cds c = ?
+slice-write-cds c = search needs
 
--- src/lib.rt:87:9
 add-i : tie.Need-add-i Inv-loop μ-loop
-add-i c = ?
+add-i c = search needs
 
--- src/lib.rt:82:5
 loop-less : tie.Need-loop-less Inv-loop μ-loop
-loop-less c = ?
+loop-less c = search needs
 
--- src/lib.rt:82:5
 loop-again : tie.Need-loop-again Inv-loop μ-loop
-loop-again c = ?
+loop-again c =
+    let passed = c .before .before .before .before .pass-column in
+    let test = c .before .before .before .before .before .before .before in
+    let l = test .before .loop in
+    let start = test .before .before .before .before .before .before .before in (
+    search needs,
+    passed .ensures .sixteen,
+    passed .kept .1 .1 .1 .1 .0 ∙ l .inv .2,
+    rw length-set (l .inv .3),
+    sym (row-next _ _ _ _ (l .i) (test .loop-test .taken) (passed .ensures .passed) (l .cds) (omega (arith, l .inv .3, start .pre .1, test .loop-test .taken))) ∙ l .inv .4,
+    sym (after-next _ _ _ _ (l .i) (test .loop-test .taken) (passed .ensures .passed)) ∙ l .inv .5,
+    )
 
--- src/lib.rt:75:1
 same-length : tie.Need-same-length Inv-loop μ-loop
-same-length c = ?
+same-length c = c .before .loop .inv .2
 
--- src/lib.rt:75:1
 same-length-2 : tie.Need-same-length-2 Inv-loop μ-loop
-same-length-2 c = ?
+same-length-2 c = c .before .loop .inv .3
 
--- src/lib.rt:75:1
 returns : tie.Need-returns Inv-loop μ-loop
-returns c = ?
+returns c =
+    let l = c .before .loop in
+    let start = c .before .before .before .before .before .before .before in
+    let a = start .args in
+    rowed
+    _
+    _
+    _
+    (a .cdm .now)
+    _
+    _
+    (l .chain)
+    (l .i)
+    (c .loop-test .left)
+    (omega (arith, l .inv .3, start .pre .1, c .loop-test .left))
+    (omega (arith, l .inv .1, start .pre .0 .few))
+    (l .inv .2 ∙ start .pre .0 .all-registers)
+    (l .inv .4)
+    (l .inv .5)
 
 pub answer-row-spec : {M : Type 1} → statement M
 answer-row-spec =

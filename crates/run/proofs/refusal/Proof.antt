@@ -1,6 +1,5 @@
 -- `run::refusal` meets its contract: each answer is the definition at the branch's tests. Assumes nothing.
 use borrow.Author.Needs.{needs}
-use borrow.Author.Tests.{lt-ltb, le-ltb, eq-eqb, ne-eqb}
 use Rattle.line.proofs.Rules.{cases}
 use Rattle.run.specs.Run.{refusal}
 use Rattle.run.proofs.refusal.Statement.{statement}
@@ -32,11 +31,11 @@ returns-3 c = search cases
 
 returns-4 : tie.Need-returns-4
 unfolding refusal
-returns-4 c = ?
+returns-4 c = rw (← c .before .before .none-above .ensures, c .before .if4 .taken, c .row-refusal .ensures) (search cases)
 
 returns-5 : tie.Need-returns-5
 unfolding refusal
-returns-5 c = ?
+returns-5 c = rw (← c .before .none-above .ensures, c .if4 .left) (search cases)
 
 pub refusal-spec : {M : Type 1} → statement M
 refusal-spec =

@@ -1,6 +1,5 @@
 -- `run::row_refusal` meets its contract: each answer is the definition at the branch's tests. Assumes nothing.
 use borrow.Author.Needs.{needs}
-use borrow.Author.Tests.{lt-ltb, le-ltb, eq-eqb, ne-eqb}
 use Rattle.line.proofs.Rules.{cases}
 use Rattle.run.specs.Run.{rowRefusal}
 use Rattle.run.proofs.row_refusal.Statement.{statement}
@@ -23,11 +22,11 @@ returns-3 c = search cases
 
 returns-4 : tie.Need-returns-4
 unfolding rowRefusal
-returns-4 c = ?
+returns-4 c = rw (← c .before .are-bits .ensures, c .if4 .taken) (search cases)
 
 returns-5 : tie.Need-returns-5
 unfolding rowRefusal
-returns-5 c = ?
+returns-5 c = rw (← c .before .are-bits .ensures, c .if4 .left) (search cases)
 
 pub row-refusal-spec : {M : Type 1} → statement M
 row-refusal-spec =
