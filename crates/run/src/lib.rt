@@ -5,7 +5,8 @@ ghost use lib.ListN.{length};
 ghost use Rattle.run.specs.Run.{rowRefusal, refusal, Ran};
 ghost use Rattle.run.specs.Parts.{Holds, Columned, Rowed};
 use job::Outcome;
-use slave::{Seen, Slave};
+use slave::Seen;
+use slave::Slave;
 
 // Refusal 1: "more than 16 slaves".
 const SLAVES: usize = 16;
@@ -27,7 +28,13 @@ struct Column {
 
 // Runs the chain from power-on: `registers` and `rights` hold 128 bytes a slave, far slave first, `cdm` the master row, and `cds`
 // takes the answers.
-pub fn run(slaves: usize, rights: &[u8], registers: &mut [u8], cdm: &[u8], cds: &mut [u8]) -> Outcome
+pub fn run(
+    slaves: usize,
+    rights: &[u8],
+    registers: &mut [u8],
+    cdm: &[u8],
+    cds: &mut [u8],
+) -> Outcome
     ensures { λ r. ⌜ Ran slaves (now (rights .entry)) (now (registers .entry)) (now (cdm .entry)) (now (cds .entry)) r (now (registers .exit)) (now (cds .exit)) ⌝ }
 {
     let why = refusal(slaves, registers.len(), rights, cdm, cds.len());
@@ -89,7 +96,13 @@ fn answer_row(slaves: usize, rights: &[u8], registers: &mut [u8], cdm: &[u8], cd
 }
 
 // One column: "the bit enters at the far end as 0 and goes slave by slave to the master" (01, Chain).
-fn pass_column(slaves: [Slave; 16], count: usize, master: bool, rights: &[u8], registers: &mut [u8]) -> Column
+fn pass_column(
+    slaves: [Slave; 16],
+    count: usize,
+    master: bool,
+    rights: &[u8],
+    registers: &mut [u8],
+) -> Column
     requires { ⌜ Holds count (now registers) (now rights) ⌝ }
     ensures { λ r. ⌜ Columned slaves count master (now (rights .entry)) (now (registers .entry)) r (now (registers .exit)) ⌝ }
 {

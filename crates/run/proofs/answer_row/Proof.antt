@@ -60,12 +60,12 @@ loop-again c =
     let test = c .before .before .before .before .before .before .before in
     let l = test .before .loop in
     let start = test .before .before .before .before .before .before .before in (
-    search needs,
-    passed .ensures .sixteen,
-    passed .kept .1 .1 .1 .1 .0 ∙ l .inv .2,
-    rw length-set (l .inv .3),
-    sym (row-next _ _ _ _ (l .i) (test .loop-test .taken) (passed .ensures .passed) (l .cds) (omega (arith, l .inv .3, start .pre .1, test .loop-test .taken))) ∙ l .inv .4,
-    sym (after-next _ _ _ _ (l .i) (test .loop-test .taken) (passed .ensures .passed)) ∙ l .inv .5,
+      search needs,
+      passed .ensures .sixteen,
+      passed .kept .1 .1 .1 .1 .0 ∙ l .inv .2,
+      rw length-set (l .inv .3),
+      sym (row-next _ _ _ _ (l .i) (test .loop-test .taken) (passed .ensures .passed) (l .cds) (omega (arith, l .inv .3, start .pre .1, test .loop-test .taken))) ∙ l .inv .4,
+      sym (after-next _ _ _ _ (l .i) (test .loop-test .taken) (passed .ensures .passed)) ∙ l .inv .5,
     )
 
 same-length : tie.Need-same-length Inv-loop μ-loop

@@ -68,10 +68,10 @@ loop-again c =
     let test = c .before .before .before .before .before .before in
     let l = test .before .loop in
     let start = test .before .before .before .before in (
-    search needs,
-    rw length-set (l .inv .1),
-    rw length-set (l .inv .2),
-    l .inv .3 ∙ turn _ _ _ (l .i) (l .chain) (l .registers) (l .bit) _ _ (step .result) (test .loop-test .taken) (omega (arith, l .inv .1, start .pre .few)) (place .ensures .0) (place .ensures .1) (step .ensures),
+      search needs,
+      rw length-set (l .inv .1),
+      rw length-set (l .inv .2),
+      l .inv .3 ∙ turn _ _ _ (l .i) (l .chain) (l .registers) (l .bit) _ _ (step .result) (test .loop-test .taken) (omega (arith, l .inv .1, start .pre .few)) (place .ensures .0) (place .ensures .1) (step .ensures),
     )
 
 same-length : tie.Need-same-length Inv-loop μ-loop

@@ -1,34 +1,36 @@
+-- `run::run` meets its contract: refused with every lent byte as it was, or the row answered. Assumes nothing.
+use mathlib.Core.Path.{_≡_, sym, _∙_}
 use borrow.Author.Needs.{needs}
+use Rattle.run.proofs.Ends.{held, same-rows, ran-refused, ran-made}
 use Rattle.run.proofs.run.Statement.{statement}
 use Rattle.run.proofs.run.Tie as tie
-use Rattle.run.proofs.run.Reads as reads
-use Rattle.run.proofs.run.Lts as lts
-use Rattle.run.proofs.answer_row.Reads as answer-row-reads
-use Rattle.run.proofs.refusal.Reads as refusal-reads
 
--- src/lib.rt:33:9
 refusal-requires : tie.Need-refusal-requires
 refusal-requires c κs = search needs
 
--- src/lib.rt:35:9
 returns : tie.Need-returns
-returns c = ?
+returns c = ran-refused _ _ _ _ _ _ (c .before .refusal .ensures) (c .if1 .taken)
 
--- src/lib.rt:37:5
 answer-row-requires : tie.Need-answer-row-requires
-answer-row-requires c κs = ?
+answer-row-requires c κs =
+    let through = c .before .before in
+    let a = through .before .before .before .before .before .before .args in
+    let e = sym (through .before .refusal .ensures) ∙ through .if1 .left in (
+      held (a .slaves) (a .registers .now) (a .rights .now) (a .cdm .now) (a .cds .now) e,
+      same-rows (a .slaves) (a .registers .now) (a .rights .now) (a .cdm .now) (a .cds .now) e,
+    )
 
--- src/lib.rt:30:1
 same-length : tie.Need-same-length
 same-length c = search needs
 
--- src/lib.rt:30:1
 same-length-2 : tie.Need-same-length-2
 same-length-2 c = search needs
 
--- src/lib.rt:30:1
 returns-2 : tie.Need-returns-2
-returns-2 c = ?
+returns-2 c =
+    let row = c .before .before .before .before .answer-row in
+    let through = c .before .before .before .before .before .before .before in
+    ran-made _ _ _ _ _ _ _ (sym (through .before .refusal .ensures) ∙ through .if1 .left) (row .ensures) (row .kept .1 .1 .0) (row .kept .1 .1 .1 .1 .0)
 
 pub run-spec : {M : Type 1} → statement M
 run-spec =
