@@ -11,7 +11,6 @@ use lib.Seq.{drop-cons, take-all, take-suc-set, length-take-le}
 use Rattle.line.specs.Limits.{registerCount}
 use Rattle.line.specs.Bits.{num, bitOf, rowOf}
 use Rattle.line.specs.Rest.{powerOn}
-use Rattle.line.specs.Memory.{Memory}
 use Rattle.line.specs.Slave as line
 use Rattle.line.specs.Chain.{Passed, column, answers, after, switchedOn, memories, answersFrom, memoriesAfter}
 use Rattle.slave.specs.Code.{stateOf}

@@ -8,7 +8,7 @@ use Rattle.line.specs.Limits.{slaveLimit, registerCount}
 use Rattle.line.specs.Bits.{num, rowOf}
 use Rattle.line.specs.Memory.{Memory}
 use Rattle.line.specs.Slave as line
-use Rattle.line.specs.Chain.{Passed, column, answersFrom, memoriesAfter}
+use Rattle.line.specs.Chain.{column, answersFrom, memoriesAfter}
 use Rattle.slave.specs.Code.{stateOf}
 use Rattle.slave.specs.declared.Slave.{Slave}
 use Rattle.run.specs.Run.{memoriesOf, registersOf}

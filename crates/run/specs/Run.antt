@@ -1,6 +1,6 @@
 -- The job run: a chain of slaves over a master row; when it refuses, and what it leaves. The chain itself is line's (specs/Chain).
 use mathlib.Core.Path.{_≡_}
-use mathlib.Core.Bool.{Bool, cond, not, _||_}
+use mathlib.Core.Bool.{cond, not, _||_}
 use mathlib.Core.List.{List, [], _∷_, _++_, map}
 use Prim.Native.Nat.{ℕ, zero, suc, _*_}
 use lib.Dec.{ltb, eqb}

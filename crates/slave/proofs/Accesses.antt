@@ -1,5 +1,5 @@
 -- The columns of a register access, a law for each branch of the code, in the branch's own words. Assumes nothing.
-use mathlib.Core.Path.{_≡_, refl, sym, ap, _∙_}
+use mathlib.Core.Path.{_≡_, refl, sym, _∙_}
 use mathlib.Core.Bool.{Bool, true, false, not, _&&_, Bool·beq, and-true, and-false, false≢true}
 use Prim.Native.Nat.{ℕ, zero, suc, _+_, _-_, _/_, _%_, _^_, _≤_, _<_}
 use native.Mathlib.Omega.{arith}
@@ -7,10 +7,10 @@ use borrow.Author.Tests.{lt-ltb, le-ltb, ltb-true}
 use lib.Dec.{ltb, eqb}
 use Rattle.line.specs.Limits.{registerCount, byteLimit}
 use Rattle.line.specs.Bits.{num, bit, push}
-use Rattle.line.specs.Division.{dataBits, checkWidth, topBit, word, fits, byteOf}
+use Rattle.line.specs.Division.{dataBits, topBit, word, fits, byteOf}
 use Rattle.line.specs.Memory.{Memory, allows, holds, stored}
 use Rattle.line.specs.Slave as line
-use Rattle.slave.specs.Code.{placeBy, before, nextAddress, leftOf, Shows, goesOn}
+use Rattle.slave.specs.Code.{placeBy, before, nextAddress, Shows, goesOn}
 use Rattle.slave.specs.declared.Body.{Body}
 use Rattle.slave.specs.declared.Seen.{Seen}
 

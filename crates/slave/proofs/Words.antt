@@ -1,12 +1,12 @@
 -- Words: the code's arithmetic on what a slave collects is that of the definitions. Assumes nothing.
-use mathlib.Core.Path.{_≡_, refl}
+use mathlib.Core.Path.{_≡_}
 use mathlib.Core.Bool.{Bool, true, false}
-use Prim.Native.Nat.{ℕ, _+_, _*_, _/_, _%_, _^_, _<_}
+use Prim.Native.Nat.{ℕ, _+_, _*_, _%_, _<_}
 use native.Mathlib.Nat.{div-one}
 use native.Mathlib.Omega.{arith}
 use mir.Val.{boolByte}
 use lib.Dec.{eqb}
-use Rattle.line.specs.Bits.{num, bit, push}
+use Rattle.line.specs.Bits.{bit, push}
 
 pub bool-lt : (b : Bool) → boolByte b < 2
 bool-lt true = omega arith

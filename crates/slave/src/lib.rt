@@ -1,8 +1,8 @@
 // One slave of the chain: a column in, its next state, the bit that it sends and the byte at its place out (01, Columns).
 ghost use mathlib.Core.Path.{_≡_};
 ghost use mathlib.Core.Bool.{cond};
-ghost use mathlib.Core.Option.{Option, some, none};
-ghost use Prim.Native.Nat.{ℕ, _<_, _%_, _*_, _/_, _^_};
+ghost use mathlib.Core.Option.{some, none};
+ghost use Prim.Native.Nat.{_<_};
 ghost use lib.Dec.{ltb};
 ghost use Rattle.line.specs.Limits.{restZeros, registerCount};
 ghost use Rattle.line.specs.Bits.{num, bit, push};

@@ -1,8 +1,8 @@
 -- `run::answer_row` meets its contract. The loop's invariant: the answers so far and those that are left are all of the row's, and what is
 -- left of the row takes the chain of now where the whole row takes the first. Assumes nothing.
 use mathlib.Core.List.{map, _++_}
-use mathlib.Core.Path.{_≡_, refl, sym, ap, _∙_}
-use Prim.Native.Nat.{_+_, _-_, _*_, _≤_}
+use mathlib.Core.Path.{_≡_, refl, sym, _∙_}
+use Prim.Native.Nat.{_+_, _-_, _≤_}
 use native.Mathlib.Omega.{arith}
 use borrow.Author.Needs.{needs}
 use lib.ListN.{length, length-set, take, drop}

@@ -1,5 +1,5 @@
 -- `run::run` meets its contract: refused with every lent byte as it was, or the row answered. Assumes nothing.
-use mathlib.Core.Path.{_≡_, sym, _∙_}
+use mathlib.Core.Path.{sym, _∙_}
 use borrow.Author.Needs.{needs}
 use Rattle.run.proofs.Ends.{held, same-rows, ran-refused, ran-made}
 use Rattle.run.proofs.run.Statement.{statement}

@@ -1,5 +1,4 @@
 -- `slave::allowed` meets its contract: a write looks at the right's high bit, a read at its low bit. Assumes nothing.
-use borrow.Author.Needs.{needs}
 use Rattle.line.specs.Bits.{bit}
 use Rattle.slave.proofs.Words.{low-bit}
 use Rattle.slave.proofs.allowed.Statement.{statement}

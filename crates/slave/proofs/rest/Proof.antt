@@ -1,5 +1,4 @@
 -- `slave::rest` meets its contract: a 1 is S, a 0 means nothing. Assumes nothing.
-use mathlib.Core.Path.{refl}
 use borrow.Author.Needs.{needs}
 use Rattle.slave.proofs.Turns.{quiet}
 use Rattle.slave.proofs.rest.Statement.{statement}
