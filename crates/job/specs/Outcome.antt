@@ -18,7 +18,11 @@ unfoldable pub leaves : (refusal : ℕ) → (result lent : List ℕ) → List �
 leaves zero result lent = result ++ drop (length result) lent
 leaves (suc n) result lent = lent
 
+-- Refusals 4 and 7 say how high a lent byte may be.
+unfoldable pub noneAbove : (limit : ℕ) → List ℕ → Bool
+noneAbove limit [] = true
+noneAbove limit (b ∷ bs) = leb b limit && noneAbove limit bs
+
 -- Refusal 7: "a row byte that is not 0 or 1".
 unfoldable pub areBits : List ℕ → Bool
-areBits [] = true
-areBits (b ∷ bs) = leb b 1 && areBits bs
+areBits row = noneAbove 1 row

@@ -1,6 +1,6 @@
-// What the four jobs share: how a job ends, and the test of a row's bytes.
+// What the four jobs share: how a job ends, and the tests of lent bytes.
 ghost use mathlib.Core.Path.{_≡_};
-ghost use Rattle.job.specs.Outcome.{areBits};
+ghost use Rattle.job.specs.Outcome.{noneAbove, areBits};
 
 pub enum Outcome {
     // So many columns, bytes or entries were made.
@@ -13,9 +13,16 @@ pub enum Outcome {
 pub fn are_bits(row: &[u8]) -> bool
     ensures { λ r. ⌜ r ≡ areBits (now (row .entry)) ⌝ }
 {
+    none_above(row, 1)
+}
+
+// Whether no byte is higher than `limit`.
+pub fn none_above(bytes: &[u8], limit: u8) -> bool
+    ensures { λ r. ⌜ r ≡ noneAbove limit (now (bytes .entry)) ⌝ }
+{
     let mut i = 0;
-    while i < row.len() {
-        if 1 < row[i] {
+    while i < bytes.len() {
+        if limit < bytes[i] {
             return false;
         }
         i += 1;

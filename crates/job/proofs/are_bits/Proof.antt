@@ -1,55 +1,15 @@
--- `job::are_bits` meets its contract. The loop's invariant: what is left of the row decides what the whole row decides.
--- Assumes nothing.
-use mathlib.Core.Path.{_≡_, refl, sym, _∙_}
-use Prim.Native.Nat.{_≤_, _-_}
+-- `job::are_bits` meets its contract: no byte is above 1. Assumes nothing.
 use borrow.Author.Needs.{needs}
-use lib.ListN.{length, drop}
 use Rattle.job.specs.Outcome.{areBits}
-use Rattle.job.proofs.Bits.{bad-byte, good-byte, no-byte}
 use Rattle.job.proofs.are_bits.Statement.{statement}
 use Rattle.job.proofs.are_bits.Tie as tie
 
-abbrev Inv-loop : tie.InvT-loop
-Inv-loop row i₀ i = (i ≤ length row) × (areBits (drop i row) ≡ areBits row)
+none-above-requires : tie.Need-none-above-requires
+none-above-requires c κs = search needs
 
-abbrev μ-loop : tie.MeasureT-loop
-μ-loop row i₀ i = length row - i
-
-loop-holds : tie.Need-loop-holds Inv-loop μ-loop
-loop-holds c = search needs
-
-shared-slice-read-if1 : tie.Need-shared-slice-read-if1 Inv-loop μ-loop
-shared-slice-read-if1 c = search needs
-
-returns : tie.Need-returns Inv-loop μ-loop
-returns c =
-    let l = c .before .before .before .loop in
-    sym (bad-byte _ (l .i) (c .before .before .loop-test .taken) (c .if1 .taken)) ∙ l .inv .1
-
-add-i : tie.Need-add-i Inv-loop μ-loop
-add-i c = search needs
-
-loop-less : tie.Need-loop-less Inv-loop μ-loop
-loop-less c = search needs
-
-loop-again : tie.Need-loop-again Inv-loop μ-loop
-loop-again c =
-    let l = c .before .before .before .loop in
-    (search needs, good-byte _ (l .i) (c .before .before .loop-test .taken) (c .if1 .left) ∙ l .inv .1)
-
-returns-2 : tie.Need-returns-2 Inv-loop μ-loop
-returns-2 c = sym (no-byte _ (c .before .loop .i) (c .loop-test .left)) ∙ c .before .loop .inv .1
+returns : tie.Need-returns
+unfolding areBits
+returns c = c .none-above .ensures
 
 pub are-bits-spec : {M : Type 1} → statement M
-are-bits-spec =
-    tie.close
-    (tie.spec
-    Inv-loop
-    μ-loop
-    loop-holds
-    shared-slice-read-if1
-    returns
-    add-i
-    loop-less
-    loop-again
-    returns-2)
+are-bits-spec = tie.close (tie.spec none-above-requires returns)

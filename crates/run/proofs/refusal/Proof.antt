@@ -1,0 +1,52 @@
+-- `run::refusal` meets its contract: each answer is the definition at the branch's tests. Assumes nothing.
+use borrow.Author.Needs.{needs}
+use Rattle.line.proofs.Rules.{cases}
+use Rattle.run.specs.Run.{refusal}
+use Rattle.run.proofs.refusal.Statement.{statement}
+use Rattle.run.proofs.refusal.Tie as tie
+
+mul-if2 : tie.Need-mul-if2
+mul-if2 c = search needs
+
+mul-if3 : tie.Need-mul-if3
+mul-if3 c = search needs
+
+none-above-requires : tie.Need-none-above-requires
+none-above-requires c κs = search needs
+
+row-refusal-requires : tie.Need-row-refusal-requires
+row-refusal-requires c κs = search needs
+
+returns : tie.Need-returns
+unfolding refusal
+returns c = search cases
+
+returns-2 : tie.Need-returns-2
+unfolding refusal
+returns-2 c = search cases
+
+returns-3 : tie.Need-returns-3
+unfolding refusal
+returns-3 c = search cases
+
+returns-4 : tie.Need-returns-4
+unfolding refusal
+returns-4 c = rw (← c .before .before .none-above .ensures, c .before .if4 .taken, c .row-refusal .ensures) (search cases)
+
+returns-5 : tie.Need-returns-5
+unfolding refusal
+returns-5 c = rw (← c .before .none-above .ensures, c .if4 .left) (search cases)
+
+pub refusal-spec : {M : Type 1} → statement M
+refusal-spec =
+    tie.close
+    (tie.spec
+    mul-if2
+    mul-if3
+    none-above-requires
+    row-refusal-requires
+    returns
+    returns-2
+    returns-3
+    returns-4
+    returns-5)

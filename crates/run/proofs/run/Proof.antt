@@ -1,0 +1,38 @@
+-- `run::run` meets its contract: refused with every lent byte as it was, or the row answered. Assumes nothing.
+use mathlib.Core.Path.{sym, _∙_}
+use borrow.Author.Needs.{needs}
+use Rattle.run.proofs.Ends.{held, same-rows, ran-refused, ran-made}
+use Rattle.run.proofs.run.Statement.{statement}
+use Rattle.run.proofs.run.Tie as tie
+
+refusal-requires : tie.Need-refusal-requires
+refusal-requires c κs = search needs
+
+returns : tie.Need-returns
+returns c = ran-refused _ _ _ _ _ _ (c .before .refusal .ensures) (c .if1 .taken)
+
+answer-row-requires : tie.Need-answer-row-requires
+answer-row-requires c κs =
+    let through = c .before .before in
+    let a = through .before .before .before .before .before .before .args in
+    let e = sym (through .before .refusal .ensures) ∙ through .if1 .left in (
+      held (a .slaves) (a .registers .now) (a .rights .now) (a .cdm .now) (a .cds .now) e,
+      same-rows (a .slaves) (a .registers .now) (a .rights .now) (a .cdm .now) (a .cds .now) e,
+    )
+
+same-length : tie.Need-same-length
+same-length c = search needs
+
+same-length-2 : tie.Need-same-length-2
+same-length-2 c = search needs
+
+returns-2 : tie.Need-returns-2
+returns-2 c =
+    let row = c .before .before .before .before .answer-row in
+    let through = c .before .before .before .before .before .before .before in
+    ran-made _ _ _ _ _ _ _ (sym (through .before .refusal .ensures) ∙ through .if1 .left) (row .ensures) (row .kept .1 .1 .0) (row .kept .1 .1 .1 .1 .0)
+
+pub run-spec : {M : Type 1} → statement M
+run-spec =
+    tie.close
+    (tie.spec refusal-requires returns answer-row-requires same-length same-length-2 returns-2)

@@ -1,0 +1,132 @@
+// The job run: a chain of 0 to 16 slaves over a master row. It answers Made with the number of columns, or Refused with 1 to 7 and
+// every lent byte as it was.
+ghost use mathlib.Core.Path.{_≡_};
+ghost use lib.ListN.{length};
+ghost use Rattle.run.specs.Run.{rowRefusal, refusal, Ran};
+ghost use Rattle.run.specs.Parts.{Holds, Columned, Rowed};
+use job::Outcome;
+use slave::Seen;
+use slave::Slave;
+
+// Refusal 1: "more than 16 slaves".
+const SLAVES: usize = 16;
+
+// "A slave has 128 registers and one right for each".
+const REGISTERS: usize = 128;
+
+// Columns: "A row has 0 to 4,096 columns."
+const COLUMNS: usize = 4096;
+
+// "0 none, 1 read, 2 write, 3 both".
+const RIGHTS: u8 = 3;
+
+// The slaves after a column, and the bit that reaches the master.
+struct Column {
+    slaves: [Slave; 16],
+    answer: bool,
+}
+
+// Runs the chain from power-on: `registers` and `rights` hold 128 bytes a slave, far slave first, `cdm` the master row, and `cds`
+// takes the answers.
+pub fn run(
+    slaves: usize,
+    rights: &[u8],
+    registers: &mut [u8],
+    cdm: &[u8],
+    cds: &mut [u8],
+) -> Outcome
+    ensures { λ r. ⌜ Ran slaves (now (rights .entry)) (now (registers .entry)) (now (cdm .entry)) (now (cds .entry)) r (now (registers .exit)) (now (cds .exit)) ⌝ }
+{
+    let why = refusal(slaves, registers.len(), rights, cdm, cds.len());
+    if why != 0 {
+        return Outcome::Refused(why);
+    }
+    answer_row(slaves, rights, registers, cdm, cds);
+    Outcome::Made(cdm.len())
+}
+
+// 1 to 7, or 0 where none of them is given.
+fn refusal(slaves: usize, registers: usize, rights: &[u8], cdm: &[u8], columns: usize) -> u8
+    ensures { λ r. ⌜ r ≡ refusal slaves registers (now (rights .entry)) (now (cdm .entry)) columns ⌝ }
+{
+    if SLAVES < slaves {
+        1
+    } else if registers != REGISTERS * slaves {
+        2
+    } else if rights.len() != REGISTERS * slaves {
+        3
+    } else if job::none_above(rights, RIGHTS) {
+        row_refusal(cdm, columns)
+    } else {
+        4
+    }
+}
+
+fn row_refusal(cdm: &[u8], columns: usize) -> u8
+    ensures { λ r. ⌜ r ≡ rowRefusal (now (cdm .entry)) columns ⌝ }
+{
+    if COLUMNS < cdm.len() {
+        5
+    } else if COLUMNS < columns {
+        5
+    } else if cdm.len() != columns {
+        6
+    } else if job::are_bits(cdm) {
+        0
+    } else {
+        7
+    }
+}
+
+// The chain from power-on, a column a turn.
+fn answer_row(slaves: usize, rights: &[u8], registers: &mut [u8], cdm: &[u8], cds: &mut [u8])
+    requires { ⌜ (Holds slaves (now registers) (now rights)) × (length (now cds) ≡ length (now cdm)) ⌝ }
+    ensures { λ r. ⌜ Rowed slaves (now (rights .entry)) (now (registers .entry)) (now (cdm .entry)) (now (registers .exit)) (now (cds .exit)) ⌝ }
+{
+    let first = Slave::new();
+    let mut chain = [first; 16];
+    let mut i = 0;
+    while i < cdm.len() {
+        let column = pass_column(chain, slaves, cdm[i] == 1, rights, registers);
+        let next = column.slaves;
+        chain = next;
+        cds[i] = column.answer as u8;
+        i += 1;
+    }
+}
+
+// One column: "the bit enters at the far end as 0 and goes slave by slave to the master" (01, Chain).
+fn pass_column(
+    slaves: [Slave; 16],
+    count: usize,
+    master: bool,
+    rights: &[u8],
+    registers: &mut [u8],
+) -> Column
+    requires { ⌜ Holds count (now registers) (now rights) ⌝ }
+    ensures { λ r. ⌜ Columned slaves count master (now (rights .entry)) (now (registers .entry)) r (now (registers .exit)) ⌝ }
+{
+    let mut chain = slaves;
+    let mut bit = false;
+    let mut i = 0;
+    while i < count {
+        let slave = chain[i];
+        let at = REGISTERS * i + slave.place();
+        let seen = Seen {
+            master: master,
+            far: bit,
+            right: rights[at],
+            byte: registers[at],
+        };
+        let turn = slave.step(seen);
+        registers[at] = turn.byte;
+        let next = turn.next;
+        chain[i] = next;
+        bit = turn.sent;
+        i += 1;
+    }
+    Column {
+        slaves: chain,
+        answer: bit,
+    }
+}

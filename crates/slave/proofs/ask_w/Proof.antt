@@ -1,0 +1,42 @@
+-- `slave::ask_w` meets its contract, a law for each answer. Assumes nothing.
+use mathlib.Core.Path.{refl}
+use borrow.Author.Needs.{needs}
+use Rattle.slave.proofs.Accesses.{ask-alike, ask-allowed, ask-refused}
+use Rattle.slave.proofs.Turns.{spoke}
+use Rattle.slave.proofs.ask_w.Statement.{statement}
+use Rattle.slave.proofs.ask_w.Tie as tie
+
+said-requires : tie.Need-said-requires
+said-requires c κs = search needs
+
+allowed-requires : tie.Need-allowed-requires
+allowed-requires c κs = search needs
+
+said-requires-2 : tie.Need-said-requires-2
+said-requires-2 c κs = search needs
+
+said-requires-3 : tie.Need-said-requires-3
+said-requires-3 c κs = search needs
+
+returns : tie.Need-returns
+returns c = spoke (c .said .ensures) refl refl (λ k s. ask-alike k _ _ _ _ (c .before .before .if1 .taken))
+
+returns-2 : tie.Need-returns-2
+returns-2 c =
+    spoke (c .said2 .ensures) refl refl (λ k s. ask-allowed k _ _ _ _ s (c .before .before .before .if1 .left) (c .before .before .allowed .ensures) (c .before .if2 .taken))
+
+returns-3 : tie.Need-returns-3
+returns-3 c =
+    spoke (c .said3 .ensures) refl refl (λ k s. ask-refused k _ _ _ _ s (c .before .before .before .before .if1 .left) (c .before .before .before .allowed .ensures) (c .before .before .if2 .left))
+
+pub ask-w-spec : {M : Type 1} → statement M
+ask-w-spec =
+    tie.close
+    (tie.spec
+    said-requires
+    allowed-requires
+    said-requires-2
+    said-requires-3
+    returns
+    returns-2
+    returns-3)

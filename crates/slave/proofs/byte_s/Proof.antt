@@ -1,0 +1,40 @@
+-- `slave::byte_s` meets its contract, a law for each answer. Assumes nothing.
+use mathlib.Core.Path.{refl}
+use borrow.Author.Needs.{needs}
+use Rattle.slave.proofs.Accesses.{byte-ends, byte-takes, byte-sends}
+use Rattle.slave.proofs.Turns.{spoke}
+use Rattle.slave.proofs.byte_s.Statement.{statement}
+use Rattle.slave.proofs.byte_s.Tie as tie
+
+said-requires : tie.Need-said-requires
+said-requires c κs = search needs
+
+checked-requires : tie.Need-checked-requires
+checked-requires c κs = search needs
+
+said-requires-2 : tie.Need-said-requires-2
+said-requires-2 c κs = search needs
+
+said-requires-3 : tie.Need-said-requires-3
+said-requires-3 c κs = search needs
+
+returns : tie.Need-returns
+returns c = spoke (c .said .ensures) refl refl (λ k s. search (byte-takes, needs))
+
+returns-2 : tie.Need-returns-2
+returns-2 c = spoke (c .said2 .ensures) refl refl (λ k s. search (byte-sends, needs))
+
+returns-3 : tie.Need-returns-3
+returns-3 c = spoke (c .said3 .ensures) refl refl (λ k s. search (byte-ends, needs))
+
+pub byte-s-spec : {M : Type 1} → statement M
+byte-s-spec =
+    tie.close
+    (tie.spec
+    said-requires
+    checked-requires
+    said-requires-2
+    said-requires-3
+    returns
+    returns-2
+    returns-3)

@@ -1,0 +1,20 @@
+-- `slave::called` meets its contract, a law for each answer. Assumes nothing.
+use borrow.Author.Needs.{needs}
+use Rattle.slave.proofs.Heads.{called-wrong, called-command, called-access}
+use Rattle.slave.proofs.called.Statement.{statement}
+use Rattle.slave.proofs.called.Tie as tie
+
+header-fits-requires : tie.Need-header-fits-requires
+header-fits-requires c κs = search needs
+
+returns : tie.Need-returns
+returns c = search (called-access, needs)
+
+returns-2 : tie.Need-returns-2
+returns-2 c = search (called-command, needs)
+
+returns-3 : tie.Need-returns-3
+returns-3 c = search (called-wrong, needs)
+
+pub called-spec : {M : Type 1} → statement M
+called-spec = tie.close (tie.spec header-fits-requires returns returns-2 returns-3)

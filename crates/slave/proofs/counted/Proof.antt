@@ -1,0 +1,30 @@
+-- `slave::counted` meets its contract: the zeros are counted up to the fourteenth. Assumes nothing.
+use Prim.Native.Nat.{_+_}
+use native.Mathlib.Omega.{arith}
+use borrow.Author.Needs.{needs}
+use borrow.Author.Tests.{le-ltb}
+use Rattle.line.specs.Limits.{restZeros}
+use Rattle.line.specs.Rest.{timer}
+use Rattle.slave.proofs.counted.Statement.{statement}
+use Rattle.slave.proofs.counted.Tie as tie
+
+sub-if2 : tie.Need-sub-if2
+sub-if2 c = search needs
+
+add-result : tie.Need-add-result
+add-result c = search needs
+
+returns : tie.Need-returns
+unfolding timer
+returns c = rw (c .if1 .taken)
+
+returns-2 : tie.Need-returns-2
+unfolding timer
+returns-2 c = rw (c .before .if1 .left)
+
+returns-3 : tie.Need-returns-3
+unfolding timer
+returns-3 c = rw (c .before .if1 .left, le-ltb (c .before .before .args .zeros + 1) restZeros (omega arith))
+
+pub counted-spec : {M : Type 1} → statement M
+counted-spec = tie.close (tie.spec sub-if2 add-result returns returns-2 returns-3)

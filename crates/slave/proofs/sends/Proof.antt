@@ -1,0 +1,37 @@
+-- `slave::sends` meets its contract, a law for each answer. Assumes nothing.
+use mathlib.Core.Path.{refl}
+use borrow.Author.Needs.{needs}
+use Rattle.slave.proofs.Accesses.{sends-on, sends-last}
+use Rattle.slave.proofs.Turns.{spoke}
+use Rattle.slave.proofs.sends.Statement.{statement}
+use Rattle.slave.proofs.sends.Tie as tie
+
+shr-sent : tie.Need-shr-sent
+shr-sent c = search needs
+
+next-address-requires : tie.Need-next-address-requires
+next-address-requires c κs = search needs
+
+said-requires : tie.Need-said-requires
+said-requires c κs = search needs
+
+sub-n : tie.Need-sub-n
+sub-n c = search needs
+
+said-requires-2 : tie.Need-said-requires-2
+said-requires-2 c κs = search needs
+
+returns : tie.Need-returns
+returns c =
+    let a = c .before .before .before .before .before .args in
+    spoke (c .said .ensures) refl refl (λ k s. sends-last k (a .body .address) _ _ _ _ (a .body .left) (c .before .before .if1 .taken) (c .before .next-address .ensures))
+
+returns-2 : tie.Need-returns-2
+returns-2 c =
+    let a = c .before .before .before .before .args in
+    spoke (c .said2 .ensures) refl refl (λ k s. sends-on k (a .body .address) _ _ _ _ (a .body .left) (c .before .if1 .left))
+
+pub sends-spec : {M : Type 1} → statement M
+sends-spec =
+    tie.close
+    (tie.spec shr-sent next-address-requires said-requires sub-n said-requires-2 returns returns-2)
