@@ -1,0 +1,4 @@
+pub mod Shown
+pub mod Header
+pub mod Access
+pub mod Column
