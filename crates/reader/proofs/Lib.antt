@@ -1,4 +1,4 @@
 pub mod Shown
-pub mod Header
-pub mod Access
-pub mod Column
+pub mod LawsHeader
+pub mod LawsAccess
+pub mod LawsStep

@@ -1,6 +1,6 @@
 -- `reader::counted` meets its contract. Assumes nothing.
 use borrow.Author.Needs.{needs}
-use Rattle.reader.proofs.Column.{a-one, a-zero, a-fourteenth}
+use Rattle.reader.proofs.LawsStep.{a-one, a-zero, a-fourteenth}
 use Rattle.reader.proofs.counted.Statement.{statement}
 use Rattle.reader.proofs.counted.Tie as tie
 

@@ -1,7 +1,7 @@
 -- `reader::deaf` meets its contract, a law for each answer. Assumes nothing.
 use mathlib.Core.Path.{ap}
 use borrow.Author.Needs.{needs}
-use Rattle.reader.proofs.Access.{deaf-on}
+use Rattle.reader.proofs.LawsAccess.{deaf-on}
 use Rattle.reader.proofs.Shown.{meets-by}
 use Rattle.reader.specs.Code.{told}
 use Rattle.reader.proofs.deaf.Statement.{statement}

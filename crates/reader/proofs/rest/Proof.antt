@@ -1,6 +1,6 @@
 -- `reader::rest` meets its contract: S, or rest as before. Assumes nothing.
 use borrow.Author.Needs.{needs}
-use Rattle.reader.proofs.Column.{starts, stays}
+use Rattle.reader.proofs.LawsStep.{starts, stays}
 use Rattle.reader.proofs.Shown.{meets-by}
 use Rattle.reader.proofs.rest.Statement.{statement}
 use Rattle.reader.proofs.rest.Tie as tie

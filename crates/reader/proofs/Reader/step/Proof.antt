@@ -1,6 +1,6 @@
 -- `reader::Reader::step` meets its contract: by whether the column is the fourteenth zero. Assumes nothing.
 use borrow.Author.Needs.{needs}
-use Rattle.reader.proofs.Column.{still-counts, counts-out, gone-step, ended-step}
+use Rattle.reader.proofs.LawsStep.{still-counts, counts-out, gone-step, ended-step}
 use Rattle.reader.proofs.Shown.{meets-by}
 use Rattle.reader.specs.Code.{stateOf}
 use Rattle.reader.proofs.Reader.step.Statement.{statement}
