@@ -1,15 +1,15 @@
 -- How read ends: the refusals of the rows in the words of their branches, what lets rows through, and the two ends. Assumes nothing.
-use mathlib.Core.Path.{_≡_, refl, sym, ap, _∙_}
+use mathlib.Core.Path.{_≡_, refl, sym, _∙_}
 use mathlib.Core.Bool.{Bool, true, false, cond, not, _&&_, _||_, true≢false}
-use mathlib.Core.List.{List, _++_}
-use Prim.Native.Nat.{ℕ, _*_, _/_, _≤_, _<_}
+use mathlib.Core.List.{List}
+use Prim.Native.Nat.{ℕ, _/_, _≤_, _<_}
 use native.Mathlib.Omega.{arith}
 use borrow.Author.Tests.{lt-ltb, le-ltb, ltb-false, eq-eqb, ne-eqb, eqb-true, leb-true, leb-false, not-false}
 use lib.Dec.{ltb, leb, eqb}
-use lib.ListN.{length, drop}
+use lib.ListN.{length}
 use Rattle.line.specs.Limits.{columnLimit}
 use Rattle.line.specs.Entries.{listBytes}
-use Rattle.job.specs.Outcome.{outcome, leaves, areBits}
+use Rattle.job.specs.Outcome.{leaves, areBits}
 use Rattle.job.specs.declared.Outcome.the-variants.{Made, Refused}
 use Rattle.job.proofs.Ends.{not-first, then-rest, refused-answer, refused-leaves, made-answer}
 use Rattle.read.specs.Read.{listOf, refusal, Listed}

@@ -1,6 +1,5 @@
 -- What is left to list from a column on, and what one step of the reader makes of it. Assumes nothing.
 use mathlib.Core.Path.{_≡_, refl, sym, ap, _∙_}
-use mathlib.Core.Bool.{Bool, true, false}
 use mathlib.Core.List.{List, [], _∷_}
 use mathlib.Core.Option.{Option, none, some}
 use Prim.Native.Nat.{ℕ, zero, suc, _+_, _-_, _≤_, _<_}
@@ -12,11 +11,11 @@ use Rattle.line.specs.Bits.{bitOf, rowOf}
 use Rattle.line.specs.Rest.{Timed, powerOn}
 use Rattle.line.specs.Entries.{Entry, note, bytesOf}
 use Rattle.line.specs.Reader.{Phase, Column, col, step, columns, entries, listFrom}
-use Rattle.reader.specs.Code.{stateOf, Moved, entryOf, moved, after, Meets, Steps}
+use Rattle.reader.specs.Code.{stateOf, Moved, entryOf, moved, after, Steps}
 use Rattle.reader.specs.declared.Stepped.{Stepped}
 use Rattle.read.specs.Read.{listOf}
-use Rattle.read.specs.Parts.{Rows, sixOf}
-use Rattle.read.proofs.Placed.{step-at, silent, Given, given}
+use Rattle.read.specs.Parts.{sixOf}
+use Rattle.read.proofs.Placed.{step-at, silent, given}
 
 -- The entries from column k on, to a reader in state s.
 unfoldable pub left : Timed Phase → (k : ℕ) → (cdm cds : List ℕ) → List Entry

@@ -1,8 +1,7 @@
 // The job read: two recorded rows and an opening column in, the list of entries that they show out, six bytes each. It answers Made
 // with the number of entries, or Refused with 5 to 9 and the lent buffer as it was.
 ghost use mathlib.Core.Path.{_≡_};
-ghost use mathlib.Core.List.{List};
-ghost use Prim.Native.Nat.{ℕ, _+_, _/_, _≤_, _<_};
+ghost use Prim.Native.Nat.{_+_, _/_, _≤_, _<_};
 ghost use lib.Dec.{leb};
 ghost use lib.ListN.{length};
 ghost use lib.Seq.{sets};

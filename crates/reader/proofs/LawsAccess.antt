@@ -1,16 +1,15 @@
 -- The laws of R, W and the bytes, one for each answer of ask_r, ask_w, byte_s, reads, writes and ask_p, in the words of its branch.
 -- Assumes nothing.
-use mathlib.Core.Path.{_≡_, refl, sym, ap, _∙_}
+use mathlib.Core.Path.{_≡_, refl}
 use mathlib.Core.Bool.{Bool, true, false, _&&_, Bool·beq, and-true, and-false}
 use Prim.Native.Nat.{ℕ, zero, suc, _+_, _-_, _*_, _/_, _%_, _^_, _≤_, _<_}
 use native.Mathlib.Omega.{arith}
 use borrow.Author.Tests.{lt-ltb, le-ltb, eq-eqb, ne-eqb}
 use mir.Val.{boolByte}
-use lib.Dec.{ltb, eqb}
 use Rattle.line.specs.Limits.{registerCount, byteLimit}
 use Rattle.line.specs.Bits.{num, bitOf, push}
 use Rattle.line.specs.Division.{dataBits, checkWidth, topBit, fits, byteOf}
-use Rattle.line.specs.Reader.{Phase, deaf, askR, askW, byteS, reads, writes, askP, Look, answer, silence, asked, look}
+use Rattle.line.specs.Reader.{deaf, askR, askW, byteS, reads, writes, askP, answer, silence, asked, look}
 use Rattle.reader.specs.Code.{said, nothing, seenBy, seen}
 
 -- A bit as a number and back.
@@ -23,7 +22,7 @@ number-is true = (refl, omega arith)
 number-is false = (refl, omega arith)
 
 -- The word keeps the last sixteen bits.
-pub pushes : (w n : ℕ) (b : Bool) → n ≡ num b → n < 2 → w % 32768 * 2 + n ≡ push w b
+pub pushes : (w n : ℕ) (b : Bool) → n ≡ num b → n < 2 → w % 2 ^ 15 * 2 + n ≡ push w b
 unfolding push
 pushes w n b e h = rw (← e) (omega arith)
 
@@ -98,12 +97,12 @@ module _ (c i a : ℕ) (m x : Bool) where
     read-on (suc left) q h = let e : suc left - 1 ≡ left = omega arith in rw (e, q)
 
     pub read-good : (left : ℕ) → w′ ≡ push w x → left ≡ 0 → f ≡ fits dataBits w′ → f ≡ true
-        → seenBy (askP false i a n) (said 10 i a (w′ / 16 % 256)) ≡ seen (look c (reads i a n left w) m x)
+        → seenBy (askP false i a n) (said 10 i a (w′ / 2 ^ checkWidth % 2 ^ dataBits)) ≡ seen (look c (reads i a n left w) m x)
     unfolding look byteOf
     read-good left q h e k = rw (h, ← q, ← e, k)
 
     pub read-bad : (left : ℕ) → w′ ≡ push w x → left ≡ 0 → f ≡ fits dataBits w′ → f ≡ false
-        → seenBy (askP false i a n) (said 12 i a (w′ / 16 % 256)) ≡ seen (look c (reads i a n left w) m x)
+        → seenBy (askP false i a n) (said 12 i a (w′ / 2 ^ checkWidth % 2 ^ dataBits)) ≡ seen (look c (reads i a n left w) m x)
     unfolding look byteOf
     read-bad left q h e k = rw (h, ← q, ← e, k)
 
@@ -115,17 +114,17 @@ module _ (c i a : ℕ) (m x : Bool) where
       write-on (suc left) q h = let e : suc left - 1 ≡ left = omega arith in rw (e, q, same)
 
       pub write-good : (left : ℕ) → w′ ≡ push w m → left ≡ 0 → f ≡ fits dataBits w′ → f ≡ true → s ≡ 1
-          → seenBy (askP true i a n) (said 11 i a (w′ / 16 % 256)) ≡ seen (look c (writes i a n left w b) m x)
+          → seenBy (askP true i a n) (said 11 i a (w′ / 2 ^ checkWidth % 2 ^ dataBits)) ≡ seen (look c (writes i a n left w b) m x)
       unfolding look byteOf
       write-good left q h e k t = rw (h, ← q, ← e, k, ← same, eq-eqb s 1 t)
 
       pub write-echo : (left : ℕ) → w′ ≡ push w m → left ≡ 0 → f ≡ fits dataBits w′ → f ≡ true → (s ≡ 1 → ⊥)
-          → seenBy (askP true i a n) (said 14 i a (w′ / 16 % 256)) ≡ seen (look c (writes i a n left w b) m x)
+          → seenBy (askP true i a n) (said 14 i a (w′ / 2 ^ checkWidth % 2 ^ dataBits)) ≡ seen (look c (writes i a n left w b) m x)
       unfolding look byteOf
       write-echo left q h e k t = rw (h, ← q, ← e, k, ← same, ne-eqb s 1 t)
 
     pub write-bad : (b : Bool) (left : ℕ) → w′ ≡ push w m → left ≡ 0 → f ≡ fits dataBits w′ → f ≡ false
-        → seenBy (askP true i a n) (said 13 i a (w′ / 16 % 256)) ≡ seen (look c (writes i a n left w b) m x)
+        → seenBy (askP true i a n) (said 13 i a (w′ / 2 ^ checkWidth % 2 ^ dataBits)) ≡ seen (look c (writes i a n left w b) m x)
     unfolding look byteOf
     write-bad b left q h e k = rw (h, ← q, ← e, k)
 
@@ -135,18 +134,18 @@ module _ (c i a : ℕ) (m x : Bool) where
     unfolding look
     p-closed e = rw e
 
-    pub p-more : x ≡ false → a < 127 → n < byteLimit
+    pub p-more : x ≡ false → a < registerCount - 1 → n < byteLimit
         → seenBy (byteS v i ((a + 1) % registerCount) (n + 1)) nothing ≡ seen (look c (askP v i a n) m x)
     unfolding look
     p-more e h k =
         let b : (a + 1) % registerCount ≡ a + 1 = omega arith in
         rw (e, lt-ltb (a + 1) registerCount (omega arith), lt-ltb n byteLimit k, b)
 
-    pub p-last-byte : x ≡ false → a < 127 → byteLimit ≤ n → seenBy deaf (said 8 i a 4) ≡ seen (look c (askP v i a n) m x)
+    pub p-last-byte : x ≡ false → a < registerCount - 1 → byteLimit ≤ n → seenBy deaf (said 8 i a 4) ≡ seen (look c (askP v i a n) m x)
     unfolding look
     p-last-byte e h k = rw (e, lt-ltb (a + 1) registerCount (omega arith), le-ltb n byteLimit k)
 
-    pub p-last-address : x ≡ false → 127 ≤ a → seenBy deaf (said 8 i a 4) ≡ seen (look c (askP v i a n) m x)
+    pub p-last-address : x ≡ false → registerCount - 1 ≤ a → seenBy deaf (said 8 i a 4) ≡ seen (look c (askP v i a n) m x)
     unfolding look
     p-last-address e h = rw (e, le-ltb (a + 1) registerCount (omega arith))
 

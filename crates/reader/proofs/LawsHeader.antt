@@ -1,18 +1,17 @@
 -- The laws of the header's columns, one for each answer of ones, upto, mixed and head, in the words of its branch. Assumes nothing.
-use mathlib.Core.Path.{_≡_, refl, sym, ap, _∙_}
+use mathlib.Core.Path.{_≡_}
 use mathlib.Core.Bool.{Bool, true, false}
 use Prim.Native.Nat.{ℕ, _+_, _-_, _/_, _%_, _^_, _≤_, _<_, min}
 use native.Mathlib.Nat.{mod-mod}
 use native.Mathlib.Omega.{arith}
-use borrow.Author.Tests.{lt-ltb, le-ltb, eq-eqb, ne-eqb}
-use lib.Dec.{ltb}
+use borrow.Author.Tests.{lt-ltb, le-ltb, ne-eqb}
 use Rattle.line.specs.Limits.{headerColumns, idCount, lockFirst, lockLast, registerCount}
 use Rattle.line.specs.Bits.{push, bit}
 use Rattle.line.specs.Division.{headerBits, checkWidth, fits}
 use Rattle.line.specs.Header.{header}
 use Rattle.line.specs.Reader.{Locks, ones, upto, mixed, Phase, deaf, locks, head, askR, Look, go, locked, headed, look}
 use Rattle.line.specs.Reader as Reader
-use Rattle.reader.specs.Code.{said, nothing, seenBy, seen}
+use Rattle.reader.specs.Code.{lockBound, said, nothing, seenBy, seen}
 
 -- A lock column before IDL8's, and IDL8's.
 lock-on : (c p w : ℕ) (l : Locks) (m x : Bool) → p < idCount
@@ -48,15 +47,15 @@ module _ (c p w w′ : ℕ) (m x : Bool) (q : w′ ≡ push w m) where
   unfolding Reader.seen
   ones-on h e = rw (lock-on c p w ones m x h, q, e)
 
-  pub ones-fall : p < idCount → x ≡ false → seenBy (on (upto (p % 16))) nothing ≡ seen (at ones)
+  pub ones-fall : p < idCount → x ≡ false → seenBy (on (upto (p % lockBound))) nothing ≡ seen (at ones)
   unfolding Reader.seen
-  ones-fall h e = let k : p % 16 ≡ p = omega arith in rw (lock-on c p w ones m x h, q, e, k)
+  ones-fall h e = let k : p % lockBound ≡ p = omega arith in rw (lock-on c p w ones m x h, q, e, k)
 
-  pub ones-nine : idCount ≤ p → x ≡ true → seenBy (head (9 + 1) w′ 9) (said 1 0 0 9) ≡ seen (at ones)
+  pub ones-nine : idCount ≤ p → x ≡ true → seenBy (head (lockLast + 1) w′ (idCount + 1)) (said 1 0 0 (idCount + 1)) ≡ seen (at ones)
   unfolding Reader.seen locked
   ones-nine h e = rw (lock-last c p w ones m x h, q, e)
 
-  pub ones-eight : idCount ≤ p → x ≡ false → seenBy (head (9 + 1) w′ 8) (said 1 0 0 8) ≡ seen (at ones)
+  pub ones-eight : idCount ≤ p → x ≡ false → seenBy (head (lockLast + 1) w′ idCount) (said 1 0 0 idCount) ≡ seen (at ones)
   unfolding Reader.seen locked
   ones-eight h e = rw (lock-last c p w ones m x h, q, e)
 
@@ -73,7 +72,7 @@ module _ (c p w w′ : ℕ) (m x : Bool) (q : w′ ≡ push w m) where
     unfolding Reader.seen locked
     upto-odd h e = rw (lock-last c p w (upto n) m x h, e)
 
-    pub upto-lock : idCount ≤ p → x ≡ false → seenBy (head (9 + 1) w′ n) (said 1 0 0 n) ≡ seen (at (upto n))
+    pub upto-lock : idCount ≤ p → x ≡ false → seenBy (head (lockLast + 1) w′ n) (said 1 0 0 n) ≡ seen (at (upto n))
     unfolding Reader.seen locked
     upto-lock h e = rw (lock-last c p w (upto n) m x h, q, e)
 
@@ -85,26 +84,26 @@ module _ (c p w w′ : ℕ) (m x : Bool) (q : w′ ≡ push w m) where
     abbrev in-head : Look
     in-head = look c (head (p + 1) w l) m x
 
-    pub head-on : p < 14 → seenBy (head (p + 1 + 1) w′ l) nothing ≡ seen in-head
+    pub head-on : p < headerColumns - 1 → seenBy (head (p + 1 + 1) w′ l) nothing ≡ seen in-head
     unfolding look
     head-on h = rw (lt-ltb (p + 1) headerColumns (omega arith), q)
 
-    head-last : 14 ≤ p → in-head ≡ headed c (header w′) l
+    head-last : headerColumns - 1 ≤ p → in-head ≡ headed c (header w′) l
     unfolding look
     head-last h = rw (le-ltb (p + 1) headerColumns (omega arith), q)
 
     module _ (f : Bool) (e : f ≡ fits headerBits w′) where
-      pub head-bad : 14 ≤ p → f ≡ false → seenBy deaf (said 3 0 0 0) ≡ seen in-head
+      pub head-bad : headerColumns - 1 ≤ p → f ≡ false → seenBy deaf (said 3 0 0 0) ≡ seen in-head
       unfolding header headed
       head-bad h k = rw (head-last h, ← e, k)
 
-      pub head-access : 14 ≤ p → f ≡ true → w′ / 16 / 1024 % 2 ≡ 1
-          → seenBy (askR (w′ / 16 / 128 % 8 % 8) (w′ / 16 % 128 % 128) l) nothing ≡ seen in-head
+      pub head-access : headerColumns - 1 ≤ p → f ≡ true → w′ / 2 ^ checkWidth / 2 ^ 10 % 2 ≡ 1
+          → seenBy (askR (w′ / 2 ^ checkWidth / registerCount % idCount % idCount) (w′ / 2 ^ checkWidth % registerCount % registerCount) l) nothing ≡ seen in-head
       unfolding header headed bit
       head-access h k b =
-          rw (head-last h, ← e, k, b, mod-mod (w′ / 16 / 128) 8, mod-mod (w′ / 16) 128)
+          rw (head-last h, ← e, k, b, mod-mod (w′ / 2 ^ checkWidth / registerCount) idCount, mod-mod (w′ / 2 ^ checkWidth) registerCount)
 
-      pub head-command : 14 ≤ p → f ≡ true → (w′ / 16 / 1024 % 2 ≡ 1 → ⊥)
-          → seenBy deaf (said 4 (w′ / 16 % 4) 0 (w′ / 16 / 4 % 256)) ≡ seen in-head
+      pub head-command : headerColumns - 1 ≤ p → f ≡ true → (w′ / 2 ^ checkWidth / 2 ^ 10 % 2 ≡ 1 → ⊥)
+          → seenBy deaf (said 4 (w′ / 2 ^ checkWidth % 2 ^ 2) 0 (w′ / 2 ^ checkWidth / 2 ^ 2 % 2 ^ 8)) ≡ seen in-head
       unfolding header headed bit
-      head-command h k b = rw (head-last h, ← e, k, ne-eqb (w′ / 16 / 1024 % 2) 1 b)
+      head-command h k b = rw (head-last h, ← e, k, ne-eqb (w′ / 2 ^ checkWidth / 2 ^ 10 % 2) 1 b)

@@ -1,12 +1,11 @@
 -- A whole column: the zeros in a row, and what line's step makes of each kind of state, at the fourteenth zero and elsewhere.
 -- Assumes nothing.
-use mathlib.Core.Path.{_≡_, refl, sym, ap, _∙_}
-use mathlib.Core.Bool.{Bool, true, false, cond}
-use mathlib.Core.Option.{Option, none, some, Option·none-ne-some}
-use Prim.Native.Nat.{ℕ, _+_, _≤_, _<_}
+use mathlib.Core.Path.{_≡_, refl, sym}
+use mathlib.Core.Bool.{Bool, true, false}
+use mathlib.Core.Option.{none, some, Option·none-ne-some}
+use Prim.Native.Nat.{ℕ, _+_, _-_, _≤_, _<_}
 use native.Mathlib.Omega.{arith}
 use borrow.Author.Tests.{lt-ltb, le-ltb}
-use lib.Dec.{ltb}
 use Rattle.line.specs.Limits.{restZeros}
 use Rattle.line.specs.Rest.{timer, judge}
 use Rattle.line.specs.Reader.{begun, step}
@@ -20,11 +19,11 @@ module _ (z : ℕ) (m : Bool) where
   unfolding timer
   a-one e = rw e
 
-  pub a-zero : m ≡ false → z < 13 → Counted z m (z + 1)
+  pub a-zero : m ≡ false → z < restZeros - 1 → Counted z m (z + 1)
   unfolding timer
   a-zero e h = rw e
 
-  pub a-fourteenth : m ≡ false → 13 ≤ z → Counted z m 14
+  pub a-fourteenth : m ≡ false → restZeros - 1 ≤ z → Counted z m restZeros
   unfolding timer
   a-fourteenth e h = rw (e, le-ltb (z + 1) restZeros (omega arith))
 

@@ -1,10 +1,9 @@
 -- What a function answers, in the words of its contract: an answer that meets one promise meets an equal one. Assumes nothing.
-use mathlib.Core.Path.{_≡_, refl, ap, _∙_}
-use mathlib.Core.Bool.{Bool, true, false, false≢true}
+use mathlib.Core.Path.{_≡_, refl, _∙_}
+use mathlib.Core.Bool.{true, false, false≢true}
 use Prim.Native.Nat.{ℕ}
 use Rattle.line.specs.Rest.{frame}
-use Rattle.line.specs.Reader.{Phase, Look, look}
-use Rattle.reader.specs.Code.{alive, phaseBy, stateBy, stateOf, Seen, Moved, small, seenBy, seen, told, after, Meets}
+use Rattle.reader.specs.Code.{alive, phaseBy, stateBy, stateOf, Moved, small, seenBy, told, after, Meets}
 use Rattle.reader.specs.declared.Kind.{Kind}
 use Rattle.reader.specs.declared.Kind.the-variants.{Power, Rest, Deaf, Ones, Upto, Mixed, Head, AskR, AskW, ByteS, Reads, Writes, AskP}
 use Rattle.reader.specs.declared.Body.{Body}

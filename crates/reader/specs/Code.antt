@@ -3,13 +3,13 @@
 use mathlib.Core.Path.{_≡_}
 use mathlib.Core.Bool.{Bool, true, false, cond}
 use mathlib.Core.Option.{Option, none, some}
-use Prim.Native.Nat.{ℕ, _+_, _%_, _^_, _<_, min}
+use Prim.Native.Nat.{ℕ, _+_, _%_, _<_, min}
 use lib.Dec.{ltb}
 use Rattle.line.specs.Limits.{restZeros, idCount, lockFirst, registerCount}
 use Rattle.line.specs.Bits.{bitOf}
-use Rattle.line.specs.Rest.{Timed, power, rest, frame, Judged, still, meant, timer, judge}
+use Rattle.line.specs.Rest.{Timed, power, rest, frame, timer}
 use Rattle.line.specs.Entries as line
-use Rattle.line.specs.Reader.{Locks, ones, upto, mixed, Phase, deaf, locks, head, askR, askW, byteS, reads, writes, askP, Look, look, answer, silence, begun, Step, stepped, step}
+use Rattle.line.specs.Reader.{ones, upto, mixed, Phase, deaf, locks, head, askR, askW, byteS, reads, writes, askP, Look, look, answer, silence, begun, Step, step}
 use Rattle.reader.specs.declared.Kind.{Kind}
 use Rattle.reader.specs.declared.Kind.the-variants.{Power, Rest, Deaf, Ones, Upto, Mixed, Head, AskR, AskW, ByteS, Reads, Writes, AskP}
 use Rattle.reader.specs.declared.Body.{Body}
@@ -24,8 +24,12 @@ idOf b = b .id % idCount
 abbrev pub addressOf : Body → ℕ
 addressOf b = b .address % registerCount
 
+-- A lock value is 9 at most; any bound above it would do.
+abbrev pub lockBound : ℕ
+lockBound = 16
+
 abbrev pub lockOf : Body → ℕ
-lockOf b = b .count % 16
+lockOf b = b .count % lockBound
 
 abbrev pub lockColumn : Body → ℕ
 lockColumn b = lockFirst + min (b .place) idCount
@@ -86,6 +90,9 @@ said kind id address value = record { kind = kind; id = id; address = address; v
 abbrev pub nothing : Entry
 nothing = said 0 0 0 0
 
+abbrev pub ending : Entry
+ending = said (line.number line.Kind.end) 0 0 0
+
 abbrev pub entryOf : Option line.Entry → Entry
 entryOf none = nothing
 entryOf (some e) = said (line.number (e .kind)) (e .id) (e .address) (e .value)
@@ -140,17 +147,17 @@ silences zeros b m x c = told zeros (seen (silence c (idOf b) (addressOf b) (bit
 unfoldable pub ended : Kind → ℕ → Moved
 ended Power c = rested nothing
 ended Rest c = rested nothing
-ended Deaf c = rested (said 15 0 0 0)
-ended Ones c = rested (said 15 0 0 0)
-ended Upto c = rested (said 15 0 0 0)
-ended Mixed c = rested (said 15 0 0 0)
-ended Head c = rested (said 15 0 0 0)
-ended AskR c = rested (said 15 0 0 0)
-ended AskW c = rested (said 15 0 0 0)
-ended ByteS c = rested (said 15 0 0 0)
-ended Reads c = rested (said 15 0 0 0)
-ended Writes c = rested (said 15 0 0 0)
-ended AskP c = rested (said 15 0 0 0)
+ended Deaf c = rested ending
+ended Ones c = rested ending
+ended Upto c = rested ending
+ended Mixed c = rested ending
+ended Head c = rested ending
+ended AskR c = rested ending
+ended AskW c = rested ending
+ended ByteS c = rested ending
+ended Reads c = rested ending
+ended Writes c = rested ending
+ended AskP c = rested ending
 
 -- Any other column.
 unfoldable pub gone : Kind → ℕ → Body → (m x : Bool) → ℕ → Moved

@@ -1,5 +1,4 @@
 -- `read::keep` meets its contract: put where there is room. Assumes nothing.
-use mathlib.Core.Path.{refl}
 use borrow.Author.Needs.{needs}
 use borrow.Author.Tests.{lt-ltb, le-ltb}
 use Rattle.read.specs.Parts.{kept}

@@ -1,5 +1,5 @@
 -- `read::read` meets its contract: refused by the rows, refused for want of room, or scanned into the buffer. Assumes nothing.
-use mathlib.Core.Path.{sym, ap, _∙_}
+use mathlib.Core.Path.{sym, _∙_}
 use borrow.Author.Needs.{needs}
 use Rattle.read.proofs.Ends.{rows-through, rows-refused, room-refused, list-made}
 use Rattle.read.proofs.read.Statement.{statement}

@@ -1,13 +1,11 @@
 -- `read::scan` meets its contract. The loop's invariant: what is behind the n entries given so far is what is left from column k on,
 -- and the buffer is filled with those n. Assumes nothing.
-use mathlib.Core.List.{List}
 use mathlib.Core.Logic.{⊎-elim}
-use mathlib.Core.Path.{_≡_, refl, sym, ap, _∙_}
-use Prim.Native.Nat.{ℕ, _+_, _-_, _≤_}
+use mathlib.Core.Path.{_≡_, ap, _∙_}
+use Prim.Native.Nat.{_+_, _-_, _≤_}
 use native.Mathlib.Omega.{arith}
 use borrow.Author.Needs.{needs}
 use lib.ListN.{length, take, drop}
-use Rattle.line.specs.Entries.{Entry}
 use Rattle.reader.specs.Code.{stateOf}
 use Rattle.read.proofs.Filled.{filled-none, length-filled, cut-length, cut-drop, filled-kept, end-length, end-filled}
 use Rattle.read.proofs.Left.{left, all-left, none-left, turn-none, turn-some}

@@ -1,5 +1,4 @@
 -- `reader::fourteenth` meets its contract: rest, with an entry where a frame was begun. Assumes nothing.
-use mathlib.Core.Path.{refl}
 use borrow.Author.Needs.{needs}
 use Rattle.reader.specs.Code.{ended}
 use Rattle.reader.proofs.fourteenth.Statement.{statement}

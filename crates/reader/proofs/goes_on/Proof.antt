@@ -1,5 +1,4 @@
 -- `reader::goes_on` meets its contract: each kind has its function. Assumes nothing.
-use mathlib.Core.Path.{refl}
 use borrow.Author.Needs.{needs}
 use Rattle.reader.specs.Code.{gone}
 use Rattle.reader.proofs.goes_on.Statement.{statement}

@@ -1,6 +1,5 @@
 -- `reader::Reader::new` meets its contract, by computation. Assumes nothing.
 use mathlib.Core.Path.{refl}
-use borrow.Author.Needs.{needs}
 use Rattle.reader.specs.Code.{stateOf}
 use Rattle.reader.proofs.Reader.new.Statement.{statement}
 use Rattle.reader.proofs.Reader.new.Tie as tie

@@ -1,5 +1,4 @@
 -- `reader::data::byte_fits` meets its contract: the check is looked up by the byte alone. Assumes nothing.
-use mathlib.Core.Path.{refl}
 use Prim.Native.Nat.{_/_}
 use borrow.Author.Needs.{needs}
 use Rattle.line.proofs.Division.{check-low}

@@ -1,5 +1,4 @@
 -- `reader::header::header_fits` meets its contract: the check is looked up. Assumes nothing.
-use mathlib.Core.Path.{refl}
 use borrow.Author.Needs.{needs}
 use Rattle.line.specs.Division.{fits}
 use Rattle.reader.proofs.header.header_fits.Statement.{statement}

@@ -1,5 +1,4 @@
 -- `reader::made::gives` meets its contract: a kind of a frame is its phase. Assumes nothing.
-use borrow.Author.Needs.{needs}
 use Rattle.reader.proofs.Shown.{in-frame}
 use Rattle.reader.proofs.made.gives.Statement.{statement}
 use Rattle.reader.proofs.made.gives.Tie as tie
