@@ -1,0 +1,109 @@
+-- The laws of the header's columns, one for each answer of ones, upto, mixed and head, in the words of its branch. Assumes nothing.
+use mathlib.Core.Path.{_≡_}
+use mathlib.Core.Bool.{Bool, true, false}
+use Prim.Native.Nat.{ℕ, _+_, _-_, _/_, _%_, _^_, _≤_, _<_, min}
+use native.Mathlib.Nat.{mod-mod}
+use native.Mathlib.Omega.{arith}
+use borrow.Author.Tests.{lt-ltb, le-ltb, ne-eqb}
+use Rattle.line.specs.Limits.{headerColumns, idCount, lockFirst, lockLast, registerCount}
+use Rattle.line.specs.Bits.{push, bit}
+use Rattle.line.specs.Division.{headerBits, checkWidth, fits}
+use Rattle.line.specs.Header.{header}
+use Rattle.line.specs.Reader.{Locks, ones, upto, mixed, Phase, deaf, locks, head, askR, Look, go, locked, headed, look}
+use Rattle.line.specs.Reader as Reader
+use Rattle.reader.specs.Code.{lockBound, said, nothing, seenBy, seen}
+
+-- A lock column before IDL8's, and IDL8's.
+lock-on : (c p w : ℕ) (l : Locks) (m x : Bool) → p < idCount
+    → look c (locks (lockFirst + min p idCount) w l) m x ≡ go (locks (lockFirst + min (p + 1) idCount) (push w m) (Reader.seen p l x))
+unfolding look
+lock-on c p w l m x h =
+    let a : lockFirst + min p idCount ≡ p + 1 = omega arith in
+    let b : lockFirst + min (p + 1) idCount ≡ p + 1 + 1 = omega arith in
+    let d : p + 1 - lockFirst ≡ p = omega arith in
+    rw (a, b, lt-ltb (p + 1) lockLast (omega arith), le-ltb (p + 1) lockFirst (omega arith), d)
+
+lock-last : (c p w : ℕ) (l : Locks) (m x : Bool) → idCount ≤ p
+    → look c (locks (lockFirst + min p idCount) w l) m x ≡ locked c lockLast (push w m) (Reader.seen idCount l x)
+unfolding look
+lock-last c p w l m x h =
+    let a : lockFirst + min p idCount ≡ lockLast = omega arith in
+    rw a
+
+-- lockodd where the pattern was odd before IDL8: the header's bits do not matter any more.
+pub mixed-odd : (c p w : ℕ) (m x : Bool) → idCount ≤ p
+    → seenBy deaf (said 2 0 0 0) ≡ seen (look c (locks (lockFirst + min p idCount) w mixed) m x)
+unfolding Reader.seen locked
+mixed-odd c p w m x h = rw (lock-last c p w mixed m x h)
+
+module _ (c p w w′ : ℕ) (m x : Bool) (q : w′ ≡ push w m) where
+  abbrev at : Locks → Look
+  at l = look c (locks (lockFirst + min p idCount) w l) m x
+
+  abbrev on : Locks → Phase
+  on l = locks (lockFirst + min (p + 1) idCount) w′ l
+
+  pub ones-on : p < idCount → x ≡ true → seenBy (on ones) nothing ≡ seen (at ones)
+  unfolding Reader.seen
+  ones-on h e = rw (lock-on c p w ones m x h, q, e)
+
+  pub ones-fall : p < idCount → x ≡ false → seenBy (on (upto (p % lockBound))) nothing ≡ seen (at ones)
+  unfolding Reader.seen
+  ones-fall h e = let k : p % lockBound ≡ p = omega arith in rw (lock-on c p w ones m x h, q, e, k)
+
+  pub ones-nine : idCount ≤ p → x ≡ true → seenBy (head (lockLast + 1) w′ (idCount + 1)) (said 1 0 0 (idCount + 1)) ≡ seen (at ones)
+  unfolding Reader.seen locked
+  ones-nine h e = rw (lock-last c p w ones m x h, q, e)
+
+  pub ones-eight : idCount ≤ p → x ≡ false → seenBy (head (lockLast + 1) w′ idCount) (said 1 0 0 idCount) ≡ seen (at ones)
+  unfolding Reader.seen locked
+  ones-eight h e = rw (lock-last c p w ones m x h, q, e)
+
+  module _ (n : ℕ) where
+    pub upto-mixed : p < idCount → x ≡ true → seenBy (on mixed) nothing ≡ seen (at (upto n))
+    unfolding Reader.seen
+    upto-mixed h e = rw (lock-on c p w (upto n) m x h, q, e)
+
+    pub upto-on : p < idCount → x ≡ false → seenBy (on (upto n)) nothing ≡ seen (at (upto n))
+    unfolding Reader.seen
+    upto-on h e = rw (lock-on c p w (upto n) m x h, q, e)
+
+    pub upto-odd : idCount ≤ p → x ≡ true → seenBy deaf (said 2 0 0 0) ≡ seen (at (upto n))
+    unfolding Reader.seen locked
+    upto-odd h e = rw (lock-last c p w (upto n) m x h, e)
+
+    pub upto-lock : idCount ≤ p → x ≡ false → seenBy (head (lockLast + 1) w′ n) (said 1 0 0 n) ≡ seen (at (upto n))
+    unfolding Reader.seen locked
+    upto-lock h e = rw (lock-last c p w (upto n) m x h, q, e)
+
+  pub mixed-on : p < idCount → seenBy (on mixed) nothing ≡ seen (at mixed)
+  unfolding Reader.seen
+  mixed-on h = rw (lock-on c p w mixed m x h, q)
+
+  module _ (l : ℕ) where
+    abbrev in-head : Look
+    in-head = look c (head (p + 1) w l) m x
+
+    pub head-on : p < headerColumns - 1 → seenBy (head (p + 1 + 1) w′ l) nothing ≡ seen in-head
+    unfolding look
+    head-on h = rw (lt-ltb (p + 1) headerColumns (omega arith), q)
+
+    head-last : headerColumns - 1 ≤ p → in-head ≡ headed c (header w′) l
+    unfolding look
+    head-last h = rw (le-ltb (p + 1) headerColumns (omega arith), q)
+
+    module _ (f : Bool) (e : f ≡ fits headerBits w′) where
+      pub head-bad : headerColumns - 1 ≤ p → f ≡ false → seenBy deaf (said 3 0 0 0) ≡ seen in-head
+      unfolding header headed
+      head-bad h k = rw (head-last h, ← e, k)
+
+      pub head-access : headerColumns - 1 ≤ p → f ≡ true → w′ / 2 ^ checkWidth / 2 ^ 10 % 2 ≡ 1
+          → seenBy (askR (w′ / 2 ^ checkWidth / registerCount % idCount % idCount) (w′ / 2 ^ checkWidth % registerCount % registerCount) l) nothing ≡ seen in-head
+      unfolding header headed bit
+      head-access h k b =
+          rw (head-last h, ← e, k, b, mod-mod (w′ / 2 ^ checkWidth / registerCount) idCount, mod-mod (w′ / 2 ^ checkWidth) registerCount)
+
+      pub head-command : headerColumns - 1 ≤ p → f ≡ true → (w′ / 2 ^ checkWidth / 2 ^ 10 % 2 ≡ 1 → ⊥)
+          → seenBy deaf (said 4 (w′ / 2 ^ checkWidth % 2 ^ 2) 0 (w′ / 2 ^ checkWidth / 2 ^ 2 % 2 ^ 8)) ≡ seen in-head
+      unfolding header headed bit
+      head-command h k b = rw (head-last h, ← e, k, ne-eqb (w′ / 2 ^ checkWidth / 2 ^ 10 % 2) 1 b)

@@ -1,0 +1,4 @@
+pub mod Shown
+pub mod LawsHeader
+pub mod LawsAccess
+pub mod LawsStep

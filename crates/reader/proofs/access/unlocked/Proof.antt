@@ -1,0 +1,27 @@
+-- `reader::access::unlocked` meets its contract, a law for each answer. Assumes nothing.
+use mathlib.Core.Path.{ap}
+use borrow.Author.Needs.{needs}
+use Rattle.reader.proofs.LawsAccess.{w-absent, w-unasked}
+use Rattle.reader.proofs.Shown.{meets-by}
+use Rattle.reader.specs.Code.{told}
+use Rattle.reader.proofs.access.unlocked.Statement.{statement}
+use Rattle.reader.proofs.access.unlocked.Tie as tie
+
+both-requires : tie.Need-both-requires
+both-requires c κs = search needs
+
+gives-requires : tie.Need-gives-requires
+gives-requires c κs = search needs
+
+gives-requires-2 : tie.Need-gives-requires-2
+gives-requires-2 c κs = search needs
+
+returns : tie.Need-returns
+returns c = meets-by (c .gives .ensures) (λ k. ap (told _) (search (w-absent, needs)))
+
+returns-2 : tie.Need-returns-2
+returns-2 c = meets-by (c .gives2 .ensures) (λ k. ap (told _) (search (w-unasked, needs)))
+
+pub unlocked-spec : {M : Type 1} → statement M
+unlocked-spec =
+    tie.close (tie.spec both-requires gives-requires gives-requires-2 returns returns-2)

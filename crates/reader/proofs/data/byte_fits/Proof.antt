@@ -1,0 +1,23 @@
+-- `reader::data::byte_fits` meets its contract: the check is looked up by the byte alone. Assumes nothing.
+use Prim.Native.Nat.{_/_}
+use borrow.Author.Needs.{needs}
+use Rattle.line.proofs.Division.{check-low}
+use Rattle.line.specs.Division.{dataBits, fits}
+use Rattle.reader.proofs.data.byte_fits.Statement.{statement}
+use Rattle.reader.proofs.data.byte_fits.Tie as tie
+
+cast-byte-check : tie.Need-cast-byte-check
+cast-byte-check c = search needs
+
+byte-check-requires : tie.Need-byte-check-requires
+byte-check-requires c κs = search needs
+
+cast-result : tie.Need-cast-result
+cast-result c = search needs
+
+returns : tie.Need-returns
+unfolding fits
+returns c = rw (c .byte-check .ensures, check-low dataBits (c .before .args .word / 16))
+
+pub byte-fits-spec : {M : Type 1} → statement M
+byte-fits-spec = tie.close (tie.spec cast-byte-check byte-check-requires cast-result returns)

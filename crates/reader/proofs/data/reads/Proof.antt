@@ -1,0 +1,49 @@
+-- `reader::data::reads` meets its contract, a law for each answer. Assumes nothing.
+use mathlib.Core.Path.{ap}
+use borrow.Author.Needs.{needs}
+use Rattle.reader.proofs.LawsAccess.{read-bad, read-good, read-on}
+use Rattle.reader.proofs.Shown.{meets-by}
+use Rattle.reader.specs.Code.{told}
+use Rattle.reader.proofs.data.reads.Statement.{statement}
+use Rattle.reader.proofs.data.reads.Tie as tie
+
+pushed-requires : tie.Need-pushed-requires
+pushed-requires c κs = search needs
+
+byte-fits-requires : tie.Need-byte-fits-requires
+byte-fits-requires c κs = search needs
+
+gives-requires : tie.Need-gives-requires
+gives-requires c κs = search needs
+
+gives-requires-2 : tie.Need-gives-requires-2
+gives-requires-2 c κs = search needs
+
+sub-n : tie.Need-sub-n
+sub-n c = search needs
+
+go-requires : tie.Need-go-requires
+go-requires c κs = search needs
+
+returns : tie.Need-returns
+returns c = meets-by (c .gives .ensures) (λ k. ap (told _) (search (read-good, needs)))
+
+returns-2 : tie.Need-returns-2
+returns-2 c = meets-by (c .gives2 .ensures) (λ k. ap (told _) (search (read-bad, needs)))
+
+returns-3 : tie.Need-returns-3
+returns-3 c = meets-by (c .go .ensures) (λ k. ap (told _) (search (read-on, needs)))
+
+pub reads-spec : {M : Type 1} → statement M
+reads-spec =
+    tie.close
+    (tie.spec
+    pushed-requires
+    byte-fits-requires
+    gives-requires
+    gives-requires-2
+    sub-n
+    go-requires
+    returns
+    returns-2
+    returns-3)

@@ -1,0 +1,61 @@
+-- `reader::data::writes` meets its contract, a law for each answer. Assumes nothing.
+use mathlib.Core.Path.{ap}
+use borrow.Author.Needs.{needs}
+use Rattle.reader.proofs.LawsAccess.{write-bad, write-echo, write-good, write-on}
+use Rattle.reader.proofs.Shown.{meets-by}
+use Rattle.reader.specs.Code.{told}
+use Rattle.reader.proofs.data.writes.Statement.{statement}
+use Rattle.reader.proofs.data.writes.Tie as tie
+
+pushed-requires : tie.Need-pushed-requires
+pushed-requires c κs = search needs
+
+echoed-requires : tie.Need-echoed-requires
+echoed-requires c κs = search needs
+
+byte-fits-requires : tie.Need-byte-fits-requires
+byte-fits-requires c κs = search needs
+
+gives-requires : tie.Need-gives-requires
+gives-requires c κs = search needs
+
+gives-requires-2 : tie.Need-gives-requires-2
+gives-requires-2 c κs = search needs
+
+gives-requires-3 : tie.Need-gives-requires-3
+gives-requires-3 c κs = search needs
+
+sub-n : tie.Need-sub-n
+sub-n c = search needs
+
+go-requires : tie.Need-go-requires
+go-requires c κs = search needs
+
+returns : tie.Need-returns
+returns c = meets-by (c .gives .ensures) (λ k. ap (told _) (search (write-good, needs)))
+
+returns-2 : tie.Need-returns-2
+returns-2 c = meets-by (c .gives2 .ensures) (λ k. ap (told _) (search (write-echo, needs)))
+
+returns-3 : tie.Need-returns-3
+returns-3 c = meets-by (c .gives3 .ensures) (λ k. ap (told _) (search (write-bad, needs)))
+
+returns-4 : tie.Need-returns-4
+returns-4 c = meets-by (c .go .ensures) (λ k. ap (told _) (search (write-on, needs)))
+
+pub writes-spec : {M : Type 1} → statement M
+writes-spec =
+    tie.close
+    (tie.spec
+    pushed-requires
+    echoed-requires
+    byte-fits-requires
+    gives-requires
+    gives-requires-2
+    gives-requires-3
+    sub-n
+    go-requires
+    returns
+    returns-2
+    returns-3
+    returns-4)

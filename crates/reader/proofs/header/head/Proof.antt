@@ -1,0 +1,57 @@
+-- `reader::header::head` meets its contract, a law for each answer. Assumes nothing.
+use mathlib.Core.Path.{ap}
+use borrow.Author.Needs.{needs}
+use Rattle.reader.proofs.LawsHeader.{head-access, head-bad, head-command, head-on}
+use Rattle.reader.proofs.Shown.{meets-by}
+use Rattle.reader.specs.Code.{told}
+use Rattle.reader.proofs.header.head.Statement.{statement}
+use Rattle.reader.proofs.header.head.Tie as tie
+
+pushed-requires : tie.Need-pushed-requires
+pushed-requires c κs = search needs
+
+add-n : tie.Need-add-n
+add-n c = search needs
+
+go-requires : tie.Need-go-requires
+go-requires c κs = search needs
+
+header-fits-requires : tie.Need-header-fits-requires
+header-fits-requires c κs = search needs
+
+go-requires-2 : tie.Need-go-requires-2
+go-requires-2 c κs = search needs
+
+gives-requires : tie.Need-gives-requires
+gives-requires c κs = search needs
+
+gives-requires-2 : tie.Need-gives-requires-2
+gives-requires-2 c κs = search needs
+
+returns : tie.Need-returns
+returns c = meets-by (c .go .ensures) (λ k. ap (told _) (search (head-on, needs)))
+
+returns-2 : tie.Need-returns-2
+returns-2 c = meets-by (c .go2 .ensures) (λ k. ap (told _) (search (head-access, needs)))
+
+returns-3 : tie.Need-returns-3
+returns-3 c = meets-by (c .gives .ensures) (λ k. ap (told _) (search (head-command, needs)))
+
+returns-4 : tie.Need-returns-4
+returns-4 c = meets-by (c .gives2 .ensures) (λ k. ap (told _) (search (head-bad, needs)))
+
+pub head-spec : {M : Type 1} → statement M
+head-spec =
+    tie.close
+    (tie.spec
+    pushed-requires
+    add-n
+    go-requires
+    header-fits-requires
+    go-requires-2
+    gives-requires
+    gives-requires-2
+    returns
+    returns-2
+    returns-3
+    returns-4)

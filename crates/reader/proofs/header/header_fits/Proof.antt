@@ -1,0 +1,21 @@
+-- `reader::header::header_fits` meets its contract: the check is looked up. Assumes nothing.
+use borrow.Author.Needs.{needs}
+use Rattle.line.specs.Division.{fits}
+use Rattle.reader.proofs.header.header_fits.Statement.{statement}
+use Rattle.reader.proofs.header.header_fits.Tie as tie
+
+cast-header-check : tie.Need-cast-header-check
+cast-header-check c = search needs
+
+header-check-requires : tie.Need-header-check-requires
+header-check-requires c κs = search needs
+
+cast-result : tie.Need-cast-result
+cast-result c = search needs
+
+returns : tie.Need-returns
+unfolding fits
+returns c = rw (c .header-check .ensures)
+
+pub header-fits-spec : {M : Type 1} → statement M
+header-fits-spec = tie.close (tie.spec cast-header-check header-check-requires cast-result returns)

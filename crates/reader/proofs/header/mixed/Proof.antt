@@ -1,0 +1,30 @@
+-- `reader::header::mixed` meets its contract, a law for each answer. Assumes nothing.
+use mathlib.Core.Path.{ap}
+use borrow.Author.Needs.{needs}
+use Rattle.reader.proofs.LawsHeader.{mixed-odd, mixed-on}
+use Rattle.reader.proofs.Shown.{meets-by}
+use Rattle.reader.specs.Code.{told}
+use Rattle.reader.proofs.header.mixed.Statement.{statement}
+use Rattle.reader.proofs.header.mixed.Tie as tie
+
+pushed-requires : tie.Need-pushed-requires
+pushed-requires c κs = search needs
+
+add-n : tie.Need-add-n
+add-n c = search needs
+
+go-requires : tie.Need-go-requires
+go-requires c κs = search needs
+
+gives-requires : tie.Need-gives-requires
+gives-requires c κs = search needs
+
+returns : tie.Need-returns
+returns c = meets-by (c .go .ensures) (λ k. ap (told _) (search (mixed-on, needs)))
+
+returns-2 : tie.Need-returns-2
+returns-2 c = meets-by (c .gives .ensures) (λ k. ap (told _) (search (mixed-odd, needs)))
+
+pub mixed-spec : {M : Type 1} → statement M
+mixed-spec =
+    tie.close (tie.spec pushed-requires add-n go-requires gives-requires returns returns-2)

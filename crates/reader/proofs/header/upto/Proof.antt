@@ -1,0 +1,57 @@
+-- `reader::header::upto` meets its contract, a law for each answer. Assumes nothing.
+use mathlib.Core.Path.{ap}
+use borrow.Author.Needs.{needs}
+use Rattle.reader.proofs.LawsHeader.{upto-lock, upto-mixed, upto-odd, upto-on}
+use Rattle.reader.proofs.Shown.{meets-by}
+use Rattle.reader.specs.Code.{told}
+use Rattle.reader.proofs.header.upto.Statement.{statement}
+use Rattle.reader.proofs.header.upto.Tie as tie
+
+pushed-requires : tie.Need-pushed-requires
+pushed-requires c κs = search needs
+
+add-n : tie.Need-add-n
+add-n c = search needs
+
+go-requires : tie.Need-go-requires
+go-requires c κs = search needs
+
+go-requires-2 : tie.Need-go-requires-2
+go-requires-2 c κs = search needs
+
+add-n-2 : tie.Need-add-n-2
+add-n-2 c = search needs
+
+gives-requires : tie.Need-gives-requires
+gives-requires c κs = search needs
+
+gives-requires-2 : tie.Need-gives-requires-2
+gives-requires-2 c κs = search needs
+
+returns : tie.Need-returns
+returns c = meets-by (c .go .ensures) (λ k. ap (told _) (search (upto-mixed, needs)))
+
+returns-2 : tie.Need-returns-2
+returns-2 c = meets-by (c .go2 .ensures) (λ k. ap (told _) (search (upto-on, needs)))
+
+returns-3 : tie.Need-returns-3
+returns-3 c = meets-by (c .gives .ensures) (λ k. ap (told _) (search (upto-odd, needs)))
+
+returns-4 : tie.Need-returns-4
+returns-4 c = meets-by (c .gives2 .ensures) (λ k. ap (told _) (search (upto-lock, needs)))
+
+pub upto-spec : {M : Type 1} → statement M
+upto-spec =
+    tie.close
+    (tie.spec
+    pushed-requires
+    add-n
+    go-requires
+    go-requires-2
+    add-n-2
+    gives-requires
+    gives-requires-2
+    returns
+    returns-2
+    returns-3
+    returns-4)

@@ -1,0 +1,87 @@
+// R and W, and what their answers say of the addressed slave.
+ghost use mathlib.Core.Path.{_≡_};
+ghost use Prim.Native.Nat.{_+_, _*_, _<_};
+ghost use Rattle.line.specs.Bits.{num};
+ghost use Rattle.reader.specs.Code.{phaseBy, shown, answers, silences, Meets};
+use crate::Body;
+use crate::Kind;
+use crate::Stepped;
+use crate::kinds;
+use crate::made::ID_COUNT;
+use crate::made::LOCK_BOUND;
+use crate::made::REGISTER_COUNT;
+use crate::made::gives;
+use crate::made::go;
+use crate::made::number;
+
+// R, with its answer, waits for W.
+pub fn ask_r(zeros: u64, body: Body, m: bool, x: bool) -> Stepped
+    ensures { λ r. ⌜ Meets r (shown zeros (phaseBy Kind.AskR body) m x) ⌝ }
+{
+    let r = number(m);
+    let y = number(x);
+    let mut n = body;
+    n.asked = r;
+    n.answered = y;
+    go(Kind::AskW, zeros, n)
+}
+
+// pair: "W's column, R = W".
+pub fn ask_w(zeros: u64, body: Body, m: bool, x: bool) -> Stepped
+    ensures { λ r. ⌜ Meets r (shown zeros (phaseBy Kind.AskW body) m x) ⌝ }
+{
+    let r = body.asked == 1;
+    let id = body.id % ID_COUNT;
+    let address = body.address % REGISTER_COUNT;
+    if r == m {
+        gives(Kind::Deaf, zeros, body, kinds::PAIR, id, address, 0)
+    } else if id < body.count % LOCK_BOUND {
+        answered(zeros, body, m, x)
+    } else {
+        unlocked(zeros, body, m, x)
+    }
+}
+
+// A locked ID: R and W repeated, or refused: "R repeated, W inverted".
+fn answered(zeros: u64, body: Body, m: bool, x: bool) -> Stepped
+    ensures { λ r. ⌜ Meets r (answers zeros body m x) ⌝ }
+{
+    let id = body.id % ID_COUNT;
+    let address = body.address % REGISTER_COUNT;
+    let r = body.asked == 1;
+    let y = body.answered == 1;
+    let w = number(m);
+    if y == r {
+        if x == m {
+            let mut n = body;
+            n.asked = w;
+            n.count = 1;
+            go(Kind::ByteS, zeros, n)
+        } else {
+            gives(Kind::Deaf, zeros, body, kinds::REFUSED, id, address, w)
+        }
+    } else {
+        gives(Kind::Deaf, zeros, body, kinds::ODD, id, address, both(y, x))
+    }
+}
+
+// absent: "answered 0 0, ID not locked".
+fn unlocked(zeros: u64, body: Body, m: bool, x: bool) -> Stepped
+    ensures { λ r. ⌜ Meets r (silences zeros body m x) ⌝ }
+{
+    let id = body.id % ID_COUNT;
+    let address = body.address % REGISTER_COUNT;
+    let value = both(body.answered == 1, x);
+    if value == 0 {
+        gives(Kind::Deaf, zeros, body, kinds::ABSENT, id, address, 0)
+    } else {
+        gives(Kind::Deaf, zeros, body, kinds::ODD, id, address, value)
+    }
+}
+
+// odd: "2 x answered R + answered W".
+fn both(y: bool, x: bool) -> u64
+    ensures { λ r. ⌜ (r ≡ 2 * num y + num x) × (r < 4) ⌝ }
+{
+    2 * number(y) + number(x)
+}

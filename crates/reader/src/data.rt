@@ -1,0 +1,136 @@
+// A byte of a register access: its S, its twelve bits, its P.
+ghost use mathlib.Core.Path.{_≡_};
+ghost use mathlib.Core.Bool.{_&&_, Bool·beq};
+ghost use Rattle.line.specs.Bits.{bitOf};
+ghost use Rattle.line.specs.Division.{dataBits, fits};
+ghost use Rattle.reader.specs.Code.{phaseBy, shown, Meets};
+use crate::Body;
+use crate::Kind;
+use crate::Stepped;
+use crate::kinds;
+use crate::made::CHECK;
+use crate::made::DATA;
+use crate::made::ID_COUNT;
+use crate::made::REGISTER_COUNT;
+use crate::made::gives;
+use crate::made::go;
+use crate::made::pushed;
+
+// Byte: "eight data bits, four check bits", the first of which eleven follow.
+const TOP_BIT: u64 = 11;
+// odd: "P answered 0 at address 127".
+const LAST_ADDRESS: u64 = 127;
+// P: "fewer than 64 bytes have passed".
+const BYTE_LIMIT: u64 = 64;
+
+// mute: "S = 1 answered 0; deaf".
+pub fn byte_s(zeros: u64, body: Body, m: bool, x: bool) -> Stepped
+    ensures { λ r. ⌜ Meets r (shown zeros (phaseBy Kind.ByteS body) m x) ⌝ }
+{
+    let id = body.id % ID_COUNT;
+    let address = body.address % REGISTER_COUNT;
+    let mut n = body;
+    n.place = TOP_BIT;
+    n.word = 0;
+    n.answered = 1;
+    if m {
+        if x {
+            if body.asked == 1 {
+                go(Kind::Writes, zeros, n)
+            } else {
+                go(Kind::Reads, zeros, n)
+            }
+        } else {
+            gives(Kind::Deaf, zeros, n, kinds::MUTE, id, address, 0)
+        }
+    } else {
+        go(Kind::Deaf, zeros, n)
+    }
+}
+
+// read, readbad: "last check column of a read, CDS check right, wrong".
+pub fn reads(zeros: u64, body: Body, m: bool, x: bool) -> Stepped
+    ensures { λ r. ⌜ Meets r (shown zeros (phaseBy Kind.Reads body) m x) ⌝ }
+{
+    let word = pushed(body.word, x);
+    let value = word / CHECK % DATA;
+    let id = body.id % ID_COUNT;
+    let address = body.address % REGISTER_COUNT;
+    let mut n = body;
+    if body.place == 0 {
+        n.asked = 0;
+        if byte_fits(word) {
+            gives(Kind::AskP, zeros, n, kinds::READ, id, address, value)
+        } else {
+            gives(Kind::AskP, zeros, n, kinds::READBAD, id, address, value)
+        }
+    } else {
+        n.place = body.place - 1;
+        n.word = word;
+        go(Kind::Reads, zeros, n)
+    }
+}
+
+// written, writebad: "CDM check right, wrong". echo: "as 11, but the echo differs in some bit".
+pub fn writes(zeros: u64, body: Body, m: bool, x: bool) -> Stepped
+    ensures { λ r. ⌜ Meets r (shown zeros (phaseBy Kind.Writes body) m x) ⌝ }
+{
+    let word = pushed(body.word, m);
+    let value = word / CHECK % DATA;
+    let same = echoed(body.answered, m, x);
+    let id = body.id % ID_COUNT;
+    let address = body.address % REGISTER_COUNT;
+    let mut n = body;
+    if body.place == 0 {
+        n.asked = 1;
+        if byte_fits(word) {
+            if same == 1 {
+                gives(Kind::AskP, zeros, n, kinds::WRITTEN, id, address, value)
+            } else {
+                gives(Kind::AskP, zeros, n, kinds::ECHO, id, address, value)
+            }
+        } else {
+            gives(Kind::AskP, zeros, n, kinds::WRITEBAD, id, address, value)
+        }
+    } else {
+        n.place = body.place - 1;
+        n.word = word;
+        n.answered = same;
+        go(Kind::Writes, zeros, n)
+    }
+}
+
+// closed: "P answered 1". odd: "P answered 0 at address 127 or the 64th byte (value 4)".
+pub fn ask_p(zeros: u64, body: Body, m: bool, x: bool) -> Stepped
+    ensures { λ r. ⌜ Meets r (shown zeros (phaseBy Kind.AskP body) m x) ⌝ }
+{
+    let id = body.id % ID_COUNT;
+    let address = body.address % REGISTER_COUNT;
+    if x {
+        gives(Kind::Deaf, zeros, body, kinds::CLOSED, id, address, 0)
+    } else if address < LAST_ADDRESS {
+        if body.count < BYTE_LIMIT {
+            let mut n = body;
+            n.address = address + 1;
+            n.count = body.count + 1;
+            go(Kind::ByteS, zeros, n)
+        } else {
+            gives(Kind::Deaf, zeros, body, kinds::ODD, id, address, 4)
+        }
+    } else {
+        gives(Kind::Deaf, zeros, body, kinds::ODD, id, address, 4)
+    }
+}
+
+// 1 where every bit so far was echoed, this one too.
+fn echoed(before: u64, m: bool, x: bool) -> u64
+    ensures { λ r. ⌜ bitOf r ≡ bitOf before && Bool·beq x m ⌝ }
+{
+    if x == m { before } else { 0 }
+}
+
+fn byte_fits(word: u64) -> bool
+    ensures { λ r. ⌜ r ≡ fits dataBits word ⌝ }
+{
+    word % CHECK == checkbits::byte_check((word / CHECK % DATA) as u8) as u64
+}

@@ -1,0 +1,34 @@
+// The kinds of entries, by the numbers of 01's table (Entries); 0 is none.
+pub const NONE: u64 = 0;
+
+pub const LOCK: u64 = 1;
+
+pub const LOCKODD: u64 = 2;
+
+pub const BADHEAD: u64 = 3;
+
+pub const COMMAND: u64 = 4;
+
+pub const PAIR: u64 = 5;
+
+pub const ABSENT: u64 = 6;
+
+pub const REFUSED: u64 = 7;
+
+pub const ODD: u64 = 8;
+
+pub const MUTE: u64 = 9;
+
+pub const READ: u64 = 10;
+
+pub const WRITTEN: u64 = 11;
+
+pub const READBAD: u64 = 12;
+
+pub const WRITEBAD: u64 = 13;
+
+pub const ECHO: u64 = 14;
+
+pub const END: u64 = 15;
+
+pub const CLOSED: u64 = 16;

@@ -1,0 +1,214 @@
+// The reader's step (01, Entries): one column in, the next state and perhaps an entry out. Kind and Body say where in a frame the
+// reader is; what a field holds in a kind that does not use it never matters.
+mod access;
+mod data;
+mod header;
+mod kinds;
+mod made;
+
+ghost use mathlib.Core.Path.{_≡_};
+ghost use Rattle.line.specs.Rest.{powerOn};
+ghost use Rattle.reader.specs.Code.{phaseBy, stateOf, ended, gone, shown, Meets, Counted, Steps};
+use access::ask_r;
+use access::ask_w;
+use data::ask_p;
+use data::byte_s;
+use data::reads;
+use data::writes;
+use header::head;
+use header::mixed;
+use header::ones;
+use header::upto;
+use made::go;
+use made::rests;
+
+pub enum Kind {
+    Power,
+    Rest,
+    Deaf,
+    // The lock columns: ones alone so far, ones and then zeros, any other pattern.
+    Ones,
+    Upto,
+    Mixed,
+    // The header columns behind the locks.
+    Head,
+    AskR,
+    AskW,
+    // A byte: its S, the twelve bits of a read or a write, its P.
+    ByteS,
+    Reads,
+    Writes,
+    AskP,
+}
+
+// Every field is 64 bits wide, a flag 0 or 1, so that each keeps a register of its own.
+pub struct Body {
+    // The header's columns before this one; in a byte, the bits after this one.
+    pub place: u64,
+    // The bits so far, the newest lowest.
+    pub word: u64,
+    // The lock value up to W; then the byte's place in the access.
+    pub count: u64,
+    pub id: u64,
+    pub address: u64,
+    // The master's R; from W on, W.
+    pub asked: u64,
+    // The answer to R; in a written byte, whether all bits so far were echoed.
+    pub answered: u64,
+}
+
+pub struct Reader {
+    pub kind: Kind,
+    // The zeros in a row just now.
+    pub zeros: u64,
+    pub body: Body,
+}
+
+// An entry without its column; kind 0 is none.
+pub struct Entry {
+    pub kind: u64,
+    pub id: u64,
+    pub address: u64,
+    pub value: u64,
+}
+
+pub struct Stepped {
+    pub next: Reader,
+    pub entry: Entry,
+}
+
+// Rest: "Fourteen CDM zeros in a row end anything".
+const REST_ZEROS: u64 = 14;
+
+impl Reader {
+    // Rest: "At power-on nobody is at rest".
+    pub fn new() -> Reader
+        ensures { λ r. ⌜ stateOf r ≡ powerOn ⌝ }
+    {
+        let body = Body {
+            place: 0,
+            word: 0,
+            count: 0,
+            id: 0,
+            address: 0,
+            asked: 0,
+            answered: 0,
+        };
+        Reader {
+            kind: Kind::Power,
+            zeros: 0,
+            body: body,
+        }
+    }
+
+    // "The fourteenth zero is judged before any other meaning of its column".
+    pub fn step(self, m: bool, x: bool) -> Stepped
+        ensures { λ r. ⌜ Steps (stateOf self) m x r ⌝ }
+    {
+        let kind = self.kind;
+        let body = self.body;
+        let zeros = counted(self.zeros, m);
+        if zeros < REST_ZEROS {
+            goes_on(kind, zeros, body, m, x)
+        } else {
+            fourteenth(kind, body)
+        }
+    }
+}
+
+// The zeros in a row after this column, fourteen at most.
+fn counted(zeros: u64, m: bool) -> u64
+    ensures { λ r. ⌜ Counted zeros m r ⌝ }
+{
+    if m {
+        0
+    } else if zeros < REST_ZEROS - 1 {
+        zeros + 1
+    } else {
+        REST_ZEROS
+    }
+}
+
+// end: "the fourteenth zero after a frame was begun".
+fn fourteenth(kind: Kind, body: Body) -> Stepped
+    ensures { λ r. ⌜ Meets r (ended kind) ⌝ }
+{
+    match kind {
+        Kind::Power => rests(body, kinds::NONE),
+        Kind::Rest => rests(body, kinds::NONE),
+        Kind::Deaf => rests(body, kinds::END),
+        Kind::Ones => rests(body, kinds::END),
+        Kind::Upto => rests(body, kinds::END),
+        Kind::Mixed => rests(body, kinds::END),
+        Kind::Head => rests(body, kinds::END),
+        Kind::AskR => rests(body, kinds::END),
+        Kind::AskW => rests(body, kinds::END),
+        Kind::ByteS => rests(body, kinds::END),
+        Kind::Reads => rests(body, kinds::END),
+        Kind::Writes => rests(body, kinds::END),
+        Kind::AskP => rests(body, kinds::END),
+    }
+}
+
+// A column that is no fourteenth zero.
+fn goes_on(kind: Kind, zeros: u64, body: Body, m: bool, x: bool) -> Stepped
+    ensures { λ r. ⌜ Meets r (gone kind zeros body m x) ⌝ }
+{
+    match kind {
+        Kind::Power => power(zeros, body, m, x),
+        Kind::Rest => rest(zeros, body, m, x),
+        Kind::Deaf => deaf(zeros, body, m, x),
+        Kind::Ones => ones(zeros, body, m, x),
+        Kind::Upto => upto(zeros, body, m, x),
+        Kind::Mixed => mixed(zeros, body, m, x),
+        Kind::Head => head(zeros, body, m, x),
+        Kind::AskR => ask_r(zeros, body, m, x),
+        Kind::AskW => ask_w(zeros, body, m, x),
+        Kind::ByteS => byte_s(zeros, body, m, x),
+        Kind::Reads => reads(zeros, body, m, x),
+        Kind::Writes => writes(zeros, body, m, x),
+        Kind::AskP => ask_p(zeros, body, m, x),
+    }
+}
+
+// Power-on: "ones then mean nothing".
+fn power(zeros: u64, body: Body, m: bool, x: bool) -> Stepped
+    ensures { λ r. ⌜ Meets r (gone Kind.Power zeros body m x) ⌝ }
+{
+    let next = Reader {
+        kind: Kind::Power,
+        zeros: zeros,
+        body: body,
+    };
+    let entry = Entry {
+        kind: kinds::NONE,
+        id: 0,
+        address: 0,
+        value: 0,
+    };
+    Stepped {
+        next: next,
+        entry: entry,
+    }
+}
+
+// Start: "The first 1 after rest is the start bit S".
+fn rest(zeros: u64, body: Body, m: bool, x: bool) -> Stepped
+    ensures { λ r. ⌜ Meets r (gone Kind.Rest zeros body m x) ⌝ }
+{
+    if m {
+        let mut n = body;
+        n.place = 0;
+        n.word = 0;
+        go(Kind::Ones, 0, n)
+    } else {
+        rests(body, kinds::NONE)
+    }
+}
+
+// "A deaf slave .. stores nothing until rest", and a deaf reader hears nothing.
+fn deaf(zeros: u64, body: Body, m: bool, x: bool) -> Stepped
+    ensures { λ r. ⌜ Meets r (shown zeros (phaseBy Kind.Deaf body) m x) ⌝ }
+{
+    go(Kind::Deaf, zeros, body)
+}

@@ -1,0 +1,96 @@
+// What every column's function is made of: the next state with an entry or none, and bits as numbers.
+ghost use mathlib.Core.Path.{_≡_};
+ghost use mathlib.Core.Bool.{true};
+ghost use Prim.Native.Nat.{_<_};
+ghost use Rattle.line.specs.Bits.{num, push};
+ghost use Rattle.reader.specs.Code.{alive, phaseBy, nothing, said, seenBy, told, rested, small, Meets};
+use crate::Body;
+use crate::Entry;
+use crate::Kind;
+use crate::Reader;
+use crate::Stepped;
+use crate::kinds;
+
+// Locks: "slaves past the eighth have none".
+pub const ID_COUNT: u64 = 8;
+// "A slave has 128 registers".
+pub const REGISTER_COUNT: u64 = 128;
+// A lock value is 9 at most; any bound above it would do.
+pub const LOCK_BOUND: u64 = 16;
+// Header, Byte: "four check bits".
+pub const CHECK: u64 = 16;
+// Byte: "eight data bits".
+pub const DATA: u64 = 256;
+
+// In a frame, and nothing to list.
+pub fn go(kind: Kind, zeros: u64, body: Body) -> Stepped
+    requires { ⌜ alive kind ≡ true ⌝ }
+    ensures { λ r. ⌜ Meets r (λ c. told zeros (seenBy (phaseBy kind body) nothing)) ⌝ }
+{
+    gives(kind, zeros, body, kinds::NONE, 0, 0, 0)
+}
+
+// In a frame, and an entry.
+pub fn gives(
+    kind: Kind,
+    zeros: u64,
+    body: Body,
+    number: u64,
+    id: u64,
+    address: u64,
+    value: u64,
+) -> Stepped
+    requires { ⌜ (alive kind ≡ true) × small (said number id address value) ⌝ }
+    ensures { λ r. ⌜ Meets r (λ c. told zeros (seenBy (phaseBy kind body) (said number id address value))) ⌝ }
+{
+    let next = Reader {
+        kind: kind,
+        zeros: zeros,
+        body: body,
+    };
+    let entry = Entry {
+        kind: number,
+        id: id,
+        address: address,
+        value: value,
+    };
+    Stepped {
+        next: next,
+        entry: entry,
+    }
+}
+
+// At rest, and an entry of no field or none.
+pub fn rests(body: Body, number: u64) -> Stepped
+    requires { ⌜ number < 256 ⌝ }
+    ensures { λ r. ⌜ Meets r (λ c. rested (said number 0 0 0)) ⌝ }
+{
+    let next = Reader {
+        kind: Kind::Rest,
+        zeros: 0,
+        body: body,
+    };
+    let entry = Entry {
+        kind: number,
+        id: 0,
+        address: 0,
+        value: 0,
+    };
+    Stepped {
+        next: next,
+        entry: entry,
+    }
+}
+
+pub fn number(bit: bool) -> u64
+    ensures { λ r. ⌜ (r ≡ num bit) × (r < 2) ⌝ }
+{
+    bit as u64
+}
+
+// The word with one bit more; it keeps the last sixteen.
+pub fn pushed(word: u64, bit: bool) -> u64
+    ensures { λ r. ⌜ (r ≡ push word bit) × (r < 65536) ⌝ }
+{
+    word % 32768 * 2 + number(bit)
+}
