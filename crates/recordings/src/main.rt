@@ -1,0 +1,255 @@
+// Reads small recordings, each kind of entry in at least two of them, and prints their lists: kind, column, id, address, value. A
+// recording is a built request of 64 columns and one slave's answers to it, with a bit or two of either row flipped.
+//
+//   column  0 .. 13  14  15 .. 23      24 .. 29   30  31  32  33 .. 40  41 .. 44  45
+//           zeros    S   header, IDL   header     R   W   S   data      check     P
+ghost use mathlib.Core.Path.{_≡_};
+ghost use Prim.Native.Nat.{_+_, _≤_, _<_};
+ghost use lib.ListN.{length};
+use job::Outcome;
+use libc::STDOUT_FILENO;
+
+// No column is flipped.
+const NONE: usize = 64;
+
+fn main() {
+    locks_and_headers();
+    requests();
+    bytes();
+}
+
+fn locks_and_headers() {
+    recorded(b"a read\n", reading(0, 0x44), 3, NONE, NONE);
+    recorded(
+        b"IDL2 is 1 after IDL1 was 0\n",
+        reading(0, 0x44),
+        3,
+        NONE,
+        17,
+    );
+    recorded(b"IDL5 alone\n", reading(0, 0x44), 3, NONE, 20);
+    recorded(
+        b"the header's last check bit\n",
+        reading(0, 0x44),
+        3,
+        29,
+        NONE,
+    );
+    recorded(b"a bit of its address\n", reading(0, 0x44), 3, 20, NONE);
+    recorded(b"a broadcast of CMD 2\n", commanding(0, 2), 3, NONE, NONE);
+    recorded(
+        b"CMD 1 for ID 0, whose bit is sent first\n",
+        commanding(0x80, 1),
+        3,
+        NONE,
+        NONE,
+    );
+}
+
+fn requests() {
+    recorded(b"R = W = 1 in a read\n", reading(0, 0x44), 3, 31, NONE);
+    recorded(
+        b"R = W = 1 in a write\n",
+        writing(0, 0x44, 0x5b),
+        3,
+        30,
+        NONE,
+    );
+    recorded(
+        b"a read of an ID that nobody holds\n",
+        reading(1, 0x44),
+        3,
+        NONE,
+        NONE,
+    );
+    recorded(
+        b"a write to one: answered 0 0 as a refusal is\n",
+        writing(3, 0x44, 0x5b),
+        3,
+        NONE,
+        NONE,
+    );
+    recorded(b"no right to read\n", reading(0, 0x44), 2, NONE, NONE);
+    recorded(
+        b"no right to write\n",
+        writing(0, 0x44, 0x5b),
+        1,
+        NONE,
+        NONE,
+    );
+    recorded(b"R not repeated\n", reading(0, 0x44), 3, NONE, 30);
+    recorded(
+        b"an ID that is not locked accepts\n",
+        reading(0, 0x44),
+        3,
+        NONE,
+        15,
+    );
+}
+
+fn bytes() {
+    recorded(
+        b"S of a read not confirmed\n",
+        reading(0, 0x44),
+        3,
+        NONE,
+        32,
+    );
+    recorded(
+        b"S of a write not confirmed\n",
+        writing(0, 0x44, 0x5b),
+        3,
+        NONE,
+        32,
+    );
+    recorded(b"a data bit of the answer\n", reading(0, 0x44), 3, NONE, 33);
+    recorded(
+        b"a check bit of the answer\n",
+        reading(0, 0x44),
+        3,
+        NONE,
+        44,
+    );
+    recorded(
+        b"a write with the right to write alone\n",
+        writing(0, 0x44, 0x5b),
+        2,
+        NONE,
+        NONE,
+    );
+    recorded(
+        b"a write to the last address: P is 1\n",
+        writing(0, 0x7f, 0x00),
+        3,
+        NONE,
+        NONE,
+    );
+    recorded(
+        b"a data bit of the master\n",
+        writing(0, 0x44, 0x5b),
+        3,
+        33,
+        NONE,
+    );
+    recorded(
+        b"a check bit of the master\n",
+        writing(0, 0x44, 0x5b),
+        3,
+        44,
+        NONE,
+    );
+    recorded(
+        b"a data bit of the echo\n",
+        writing(0, 0x44, 0x5b),
+        3,
+        NONE,
+        34,
+    );
+    recorded(
+        b"a check bit of the echo\n",
+        writing(0, 0x44, 0x5b),
+        3,
+        NONE,
+        44,
+    );
+    recorded(b"P answered 1\n", reading(0, 0x44), 3, NONE, 45);
+    recorded(
+        b"P answered 0 at the last address\n",
+        reading(0, 0x7f),
+        3,
+        NONE,
+        45,
+    );
+}
+
+fn reading(id: u8, address: u8) -> [u8; 64] {
+    let mut row = [0u8; 64];
+    build::build_read(id, address, 1, &mut row);
+    row
+}
+
+fn writing(id: u8, address: u8, value: u8) -> [u8; 64] {
+    let mut row = [0u8; 64];
+    let bytes = [value];
+    build::build_write(id, address, &bytes, &mut row);
+    row
+}
+
+fn commanding(ids: u8, cmd: u8) -> [u8; 64] {
+    let mut row = [0u8; 64];
+    build::build_command(ids, cmd, &mut row);
+    row
+}
+
+// One slave with the same right everywhere, its register 44 holding 5A and the rest 0; one bit of the master row flipped before the run,
+// one bit of the answers after it.
+fn recorded(what: &[u8], row: [u8; 64], right: u8, sent: usize, answered: usize) {
+    io::write_all(STDOUT_FILENO, what);
+    let mut cdm = row;
+    flip(&mut cdm, sent);
+    let mut registers = [0u8; 128];
+    registers[0x44] = 0x5a;
+    let rights = [right; 128];
+    let mut cds = [0u8; 64];
+    run::run(1, &rights, &mut registers, &cdm, &mut cds);
+    flip(&mut cds, answered);
+    let mut list = [0u8; 384];
+    match read::read(&cdm, &cds, 0, &mut list) {
+        Outcome::Made(entries) => listed(&list, entries),
+        Outcome::Refused(number) => refused(number),
+    }
+}
+
+fn flip(row: &mut [u8], column: usize) {
+    if column < row.len() {
+        if row[column] == 0 {
+            row[column] = 1;
+        } else {
+            row[column] = 0;
+        }
+    }
+}
+
+// So many entries of six bytes.
+fn listed(list: &[u8], entries: usize) {
+    let mut left = entries;
+    let mut at = 0;
+    while 0 < left {
+        if 6 <= list.len() - at {
+            entry(list, at);
+            at += 6;
+        }
+        left -= 1;
+    }
+}
+
+fn entry(list: &[u8], at: usize)
+    requires { ⌜ at + 6 ≤ length (now list) ⌝ }
+{
+    number(wide(list[at]));
+    io::write_all(STDOUT_FILENO, b" ");
+    number(256 * wide(list[at + 1]) + wide(list[at + 2]));
+    io::write_all(STDOUT_FILENO, b" ");
+    number(wide(list[at + 3]));
+    io::write_all(STDOUT_FILENO, b" ");
+    number(wide(list[at + 4]));
+    io::write_all(STDOUT_FILENO, b" ");
+    number(wide(list[at + 5]));
+    io::write_all(STDOUT_FILENO, b"\n");
+}
+
+fn refused(number: u8) {
+    io::write_all(STDOUT_FILENO, b"refused ");
+    io::print_decimal(STDOUT_FILENO, number as u64);
+    io::write_all(STDOUT_FILENO, b"\n");
+}
+
+fn number(n: u64) {
+    io::print_decimal(STDOUT_FILENO, n);
+}
+
+fn wide(byte: u8) -> u64
+    ensures { λ r. ⌜ (r ≡ byte) × (r < 256) ⌝ }
+{
+    byte as u64
+}

@@ -1,0 +1,170 @@
+#!/usr/bin/env python3
+"""Links mutants of the model in the library's place; the harness must find each.
+
+usage: mutants.py [NAME...]    (all if none is named)
+"""
+import os, shutil, subprocess, sys, time
+
+HERE = os.path.dirname(os.path.abspath(__file__))
+ROOT = os.path.dirname(HERE)
+WORK = os.path.join(HERE, "work")
+LIB = os.path.join(WORK, "target", "release")
+ENV = dict(os.environ, BISS_LIB_DIR=LIB, BISS_LIB_KIND="dylib")
+
+# These do the same as the model: 128 and a count from 1 on pass 128 anyway; S
+# itself is a 1; no header with a right check ends so that W is a fourteenth zero.
+EQUAL = [
+    "none",
+    "address 128 built, equal",
+    "chain: zeros counted from S",
+    "chain: zeros last at W",
+]
+
+# name, file, old text, new text
+MUTANTS = [
+    ("none", "rows.rs", "", ""),
+    ("address 128 built, equal", "build.rs", "address > 127", "address > 128"),
+    ("rest after 13", "rows.rs", "ZEROS_TO_REST: usize = 14", "ZEROS_TO_REST: usize = 13"),
+    ("rest after 15", "rows.rs", "self.0 >= ZEROS_TO_REST", "self.0 > ZEROS_TO_REST"),
+    ("4095 columns", "rows.rs", "MOST_COLUMNS: usize = 4096", "MOST_COLUMNS: usize = 4095"),
+    ("4097 columns", "rows.rs", "row.len() > MOST_COLUMNS", "row.len() > MOST_COLUMNS + 1"),
+    ("bad byte 2 passes", "rows.rs", "byte > 1", "byte > 2"),
+    ("check not inverted", "check.rs", "rest as u8 ^ 0xF", "rest as u8"),
+    ("other polynomial", "check.rs", "= 0x13", "= 0x19"),
+    ("id 8 built", "build.rs", "id > 7", "id > 8"),
+    ("count 65 built", "build.rs", "count > MOST_BYTES", "count > MOST_BYTES + 1"),
+    ("127 + 1 refused", "build.rs", "+ count > 128", "+ count > 127"),
+    ("count 0 built", "build.rs", "count == 0", "false"),
+    ("CMD 4 built", "build.rs", "cmd > 3", "cmd > 4"),
+    ("build 9 one off", "build.rs", "out.len() < 30", "out.len() <= 30"),
+    ("build 9 first", "build.rs", "    if cmd > 3 {\n        return Refused(10);\n    }\n    if out.len() < 30 {\n        return Refused(9);\n    }",
+     "    if out.len() < 30 {\n        return Refused(9);\n    }\n    if cmd > 3 {\n        return Refused(10);\n    }"),
+    ("17 slaves", "chain.rs", "MOST_SLAVES: usize = 16", "MOST_SLAVES: usize = 17"),
+    ("3 before 2", "chain.rs", "if registers.len() != REGISTERS * slaves {\n        return Some(2);\n    }\n    if rights.len() != REGISTERS * slaves {\n        return Some(3);",
+     "if rights.len() != REGISTERS * slaves {\n        return Some(3);\n    }\n    if registers.len() != REGISTERS * slaves {\n        return Some(2);"),
+    ("right 4 passes", "chain.rs", "right > 3", "right > 4"),
+    ("5 only of cdm", "chain.rs", "is_too_long(cdm) || is_too_long(cds)", "is_too_long(cdm)"),
+    ("run judges cds", "chain.rs", "has_bad_byte(cdm).then_some(7)", "(has_bad_byte(cdm) || has_bad_byte(cds)).then_some(7)"),
+    ("rights swapped", "chain.rs", "if writing { 2 } else { 1 }", "if writing { 1 } else { 2 }"),
+    ("locks one later", "frame.rs", "FIRST_LOCK: u8 = 1", "FIRST_LOCK: u8 = 2"),
+    ("no IDL8", "chain.rs", "if lock == 8 {\n            return 1;", "if lock == 8 {\n            return seen;"),
+    ("numbers kept", "chain.rs", "self.number = None;\n            self.awaits", "self.awaits"),
+    ("header check ignored", "chain.rs", "!check_is_right(bits, HEADER_BITS) || !is", "!is"),
+    ("command as access", "chain.rs", "|| !is_register_access ", ""),
+    ("pair accepted", "chain.rs", "if r == w || !allows", "if !allows"),
+    ("refusal repeats W", "chain.rs", "return 1 - w;", "return w;"),
+    ("refusal not deaf", "chain.rs", "            self.awaits = Awaits::Rest;\n            return 1 - w;", "            self.awaits = Awaits::ByteStart(Access { writing, address, passed: 0 });\n            return 1 - w;"),
+    ("S = 0 waits on", "chain.rs", "        if cdm == 0 {\n            self.awaits = Awaits::Rest;\n            return 0;", "        if cdm == 0 {\n            return 0;"),
+    ("stored unchecked", "chain.rs", "        if right {\n            self.registers", "        {\n            self.registers"),
+    ("stored at once", "chain.rs", "            self.awaits = Awaits::Byte { access, done, bits };\n            return;", "            if done == 8 { self.registers[usize::from(access.address)] = bits as u8; }\n            self.awaits = Awaits::Byte { access, done, bits };\n            return;"),
+    ("P 0 after bad check", "chain.rs", "let goes_on = stored_or_read\n            && passed", "let goes_on = passed"),
+    ("65 bytes", "chain.rs", "passed < MOST_BYTES", "passed <= MOST_BYTES"),
+    ("63 bytes", "chain.rs", "passed < MOST_BYTES", "passed < MOST_BYTES - 1"),
+    ("P by own right", "chain.rs", "self.rights[usize::from(next)], access.writing", "self.rights[usize::from(access.address)], access.writing"),
+    ("P by any right", "chain.rs", "            && allows(self.rights[usize::from(next)], access.writing);", ";"),
+    ("P 1 not deaf", "chain.rs", "        if !goes_on {\n            self.awaits = Awaits::Rest;", "        if !goes_on {\n            self.awaits = if usize::from(next) < REGISTERS { Awaits::ByteStart(Access { address: next, passed, ..access }) } else { Awaits::Rest };"),
+    ("stops at 63", "chain.rs", "&& usize::from(next) < REGISTERS", "&& usize::from(next) < REGISTERS && next != 64"),
+    ("slaves from the master's end", "chain.rs", "chain.iter_mut().fold", "chain.iter_mut().rev().fold"),
+    ("at rest from power-on", "chain.rs", "number: None,\n            awaits: Awaits::Rest", "number: None,\n            awaits: Awaits::Start"),
+    ("chain: zeros last in the header", "chain.rs", "if self.zeros.rest_after(cdm) {", "if self.zeros.rest_after(cdm) && !matches!(self.awaits, Awaits::Header { .. }) {"),
+    ("chain: zeros last at W", "chain.rs", "if self.zeros.rest_after(cdm) {", "if self.zeros.rest_after(cdm) && !matches!(self.awaits, Awaits::W { .. }) {"),
+    ("chain: P of the master judged", "chain.rs", "self.p(access, stored_or_read),", "self.p(access, stored_or_read && cdm == 0),"),
+    ("chain: twelve bits of a read judged", "chain.rs", "Awaits::Byte { access, done, bits } => self.byte(access, done, bits, cdm),", "Awaits::Byte { access, .. } if !access.writing && cdm == 1 => { self.awaits = Awaits::Rest; seen }\n            Awaits::Byte { access, done, bits } => self.byte(access, done, bits, cdm),"),
+    ("chain: zeros counted from S", "chain.rs", "            self.number = None;\n", "            self.number = None;\n            self.zeros = Zeros::none_yet();\n"),
+    ("reader: zeros last in the header", "reader.rs", "if self.zeros.rest_after(cdm) {", "if self.zeros.rest_after(cdm) && !matches!(self.awaits, Awaits::Header { .. }) {"),
+    ("reader: zeros last at S", "reader.rs", "if self.zeros.rest_after(cdm) {", "if self.zeros.rest_after(cdm) && !matches!(self.awaits, Awaits::ByteStart(_)) {"),
+    ("reader: zeros before the opening", "list.rs", "    for column in opening..cdm.len() {", "    for column in opening.saturating_sub(13)..opening { if cdm[opening.saturating_sub(13)..opening].iter().all(|&bit| bit == 0) { reader.step(cdm[column], 0); } }\n    for column in opening..cdm.len() {"),
+    ("reader: lock of the last frame", "reader.rs", "        self.lock = ones as u8;\n", "        self.lock = self.lock.max(ones as u8);\n"),
+    ("read 6 before 5", "list.rs", "    if is_too_long(cdm) || is_too_long(cds) {\n        return Refused(5);\n    }\n    if cdm.len() != cds.len() {\n        return Refused(6);\n    }",
+     "    if cdm.len() != cds.len() {\n        return Refused(6);\n    }\n    if is_too_long(cdm) || is_too_long(cds) {\n        return Refused(5);\n    }"),
+    ("7 of cdm only", "list.rs", "has_bad_byte(cdm) || has_bad_byte(cds)", "has_bad_byte(cdm)"),
+    ("7 from the opening on", "list.rs", "has_bad_byte(cdm) || has_bad_byte(cds)", "has_bad_byte(&cdm[opening.min(cdm.len())..]) || has_bad_byte(&cds[opening.min(cds.len())..])"),
+    ("opening at length refused", "list.rs", "opening > cdm.len()", "opening >= cdm.len()"),
+    ("9 one off", "list.rs", "if out.len() < ENTRY_BYTES * entries.len() {", "if out.len() <= ENTRY_BYTES * entries.len() {"),
+    ("column from the opening", "list.rs", "entry.at(column)", "entry.at(column - opening)"),
+    ("reader at rest when let in", "reader.rs", "lock: 0, awaits: Awaits::Rest", "lock: 0, awaits: Awaits::Start"),
+    ("end without a frame", "reader.rs", "frame_begun: false, lock", "frame_begun: true, lock"),
+    ("end again and again", "reader.rs", "            self.frame_begun = false;\n", ""),
+    ("deaf gives no end", "reader.rs", "let ends = self.frame_begun;", "let ends = self.frame_begun && !matches!(before, Awaits::Rest);"),
+    ("IDL8 not counted", "reader.rs", "self.lock = ones as u8;", "self.lock = ones.min(8) as u8;"),
+    ("lockodd not deaf", "reader.rs", "return self.deaf_after(Entry::of(Kind::LockOdd));", "self.lock = ones as u8; return Some(Entry::of(Kind::LockOdd));"),
+    ("locked one off", "reader.rs", "id < self.lock;", "id <= self.lock;"),
+    ("absent for any unlocked", "reader.rs", "!locked && answered == (0, 0)", "!locked"),
+    ("absent for any 0 0", "reader.rs", "!locked && answered == (0, 0)", "answered == (0, 0)"),
+    ("refused by unlocked too", "reader.rs", "locked && answered == (r, 1 - w)", "answered == (r, 1 - w)"),
+    ("accepted by unlocked too", "reader.rs", "locked && answered == (r, w)", "answered == (r, w)"),
+    ("refused has no value", "reader.rs", "Entry::of(Kind::Refused).value(w)", "Entry::of(Kind::Refused)"),
+    ("odd value turned", "reader.rs", "2 * answered.0 + answered.1", "2 * answered.1 + answered.0"),
+    ("mute unnoticed", "reader.rs", "if cds == 0 {\n            return", "if false {\n            return"),
+    ("mute not deaf", "reader.rs", "return self.deaf_after(Entry::of(Kind::Mute).place(access.id, access.address));", "return Some(Entry::of(Kind::Mute).place(access.id, access.address));"),
+    ("S = 0 not deaf", "reader.rs", "        if cdm == 0 {\n            self.awaits = Awaits::Rest;\n            return None;", "        if cdm == 0 {\n            return None;"),
+    ("echo before check", "reader.rs", "            (true, false) => Kind::WriteBad,\n            (true, true) if cds != cdm => Kind::Echo,", "            (true, _) if cds != cdm => Kind::Echo,\n            (true, false) => Kind::WriteBad,"),
+    ("echo of data only", "reader.rs", "if cds != cdm => Kind::Echo", "if cds >> 4 != cdm >> 4 => Kind::Echo"),
+    ("echo value from CDS", "reader.rs", "let value = (carried >> 4) as u8;", "let value = (if kind == Kind::Echo { cds } else { carried } >> 4) as u8;"),
+    ("writebad is deaf", "reader.rs", "        self.awaits = Awaits::P(access);\n", "        self.awaits = if access.writing && !check_is_right(cdm, BYTE_BITS) { Awaits::Rest } else { Awaits::P(access) };\n"),
+    ("readbad is deaf", "reader.rs", "        self.awaits = Awaits::P(access);\n", "        self.awaits = if !access.writing && !check_is_right(cds, BYTE_BITS) { Awaits::Rest } else { Awaits::P(access) };\n"),
+    ("closed not deaf", "reader.rs", "        if cds == 1 {\n            return self.deaf_after(Entry::of(Kind::Closed).place(access.id, access.address));", "        if cds == 1 {\n            return Some(Entry::of(Kind::Closed).place(access.id, access.address));"),
+    ("no odd at 127", "reader.rs", "access.address == LAST_ADDRESS || access.nth", "access.nth"),
+    ("no odd at the 64th", "reader.rs", " || access.nth == MOST_BYTES", ""),
+    ("odd at the 63rd", "reader.rs", "access.nth == MOST_BYTES", "access.nth == MOST_BYTES - 1"),
+    ("odd at P before closed", "reader.rs", "if cds == 1 {\n            return self.deaf_after(Entry::of(Kind::Closed)", "if cds == 1 && access.address != LAST_ADDRESS {\n            return self.deaf_after(Entry::of(Kind::Closed)"),
+    ("closed has next address", "reader.rs", "Entry::of(Kind::Closed).place(access.id, access.address)", "Entry::of(Kind::Closed).place(access.id, access.address + 1)"),
+    ("command fields swapped", "reader.rs", "Entry::of(Kind::Command).place(cmd, 0).value(ids)", "Entry::of(Kind::Command).place(ids, 0).value(cmd)"),
+    ("pair keeps listening", "reader.rs", "Entry::of(Kind::Pair)\n", "return Some(Entry::of(Kind::Pair).place(id, address))\n"),
+]
+
+
+def run(command, **more):
+    return subprocess.run(command, env=ENV, stdout=subprocess.PIPE, stderr=subprocess.STDOUT, text=True, **more)
+
+
+def make_library(file, old, new):
+    source = os.path.join(WORK, "src")
+    shutil.rmtree(source, ignore_errors=True)
+    shutil.copytree(os.path.join(HERE, "template", "src"), source)
+    shutil.copy(os.path.join(HERE, "template", "Cargo.toml"), WORK)
+    shutil.copy(os.path.join(ROOT, "src", "model.rs"), source)
+    shutil.copytree(os.path.join(ROOT, "src", "model"), os.path.join(source, "model"))
+    path = os.path.join(source, "model", file)
+    text = open(path).read()
+    if old not in text:
+        return "its text is not there"
+    text = text.replace(old, new)
+    if "matches!(before" in new:
+        text = text.replace("        if self.zeros.rest_after(cdm) {", "        let before = self.awaits;\n        if self.zeros.rest_after(cdm) {")
+    open(path, "w").write(text)
+    built = run(["cargo", "build", "--release", "-j", "1", "--offline"], cwd=WORK)
+    return None if built.returncode == 0 else built.stdout[-1500:]
+
+
+def main():
+    os.makedirs(WORK, exist_ok=True)
+    wanted = sys.argv[1:]
+    harness = None
+    missed = []
+    for name, file, old, new in MUTANTS:
+        if wanted and name not in wanted and name != "none":
+            continue
+        trouble = make_library(file, old, new)
+        if trouble:
+            print(f"{name:<32} NOT BUILT: {trouble}")
+            missed.append(name)
+            continue
+        if harness is None:
+            target = os.path.join(HERE, "target")
+            command = ["cargo", "build", "--release", "-j", "1", "--offline", "--features", "linked", "--target-dir", target]
+            linked = run(command, cwd=ROOT)
+            if linked.returncode != 0:
+                sys.exit(linked.stdout)
+            harness = os.path.join(target, "release", "harness")
+        start = time.time()
+        result = run([harness])
+        first = next((line for line in result.stdout.splitlines() if line.startswith("DIFFERENCE")), "")
+        found = result.returncode != 0 and first != ""
+        if found == (name in EQUAL):
+            missed.append(name)
+        print(f"{name:<32} {'found' if found else 'not found'} {time.time() - start:6.2f} s  {first[:110]}", flush=True)
+    print("wrong:", missed if missed else "nothing")
+
+
+main()

@@ -1,0 +1,166 @@
+//! Runs model and library on equal copies and compares all they left.
+
+use crate::case::{call_library, call_model, Case, Job};
+use crate::checks;
+use crate::model::entry::ENTRY_BYTES;
+use crate::model::list_to_text;
+use crate::model::Outcome::{self, Made};
+
+/// Bytes around each lent slice that nobody may touch.
+const GUARD: usize = 64;
+const GUARD_BYTE: u8 = 0xA5;
+
+/// A copy of a lent slice with guards around it.
+struct Lent(Vec<u8>);
+
+impl Lent {
+    fn copy(slice: &[u8]) -> Lent {
+        let guard = [GUARD_BYTE; GUARD];
+        Lent([&guard, slice, &guard].concat())
+    }
+
+    fn slice(&self) -> &[u8] {
+        &self.0[GUARD..self.0.len() - GUARD]
+    }
+
+    fn slice_mut(&mut self) -> &mut [u8] {
+        let end = self.0.len() - GUARD;
+        &mut self.0[GUARD..end]
+    }
+
+    /// The place of a touched guard byte, counted from the slice's first byte.
+    fn touched_guard(&self) -> Option<isize> {
+        let end = self.0.len() - GUARD;
+        let is_guard = |place: &usize| *place < GUARD || *place >= end;
+        let mut guards = (0..self.0.len()).filter(is_guard);
+        guards
+            .find(|&place| self.0[place] != GUARD_BYTE)
+            .map(|place| place as isize - GUARD as isize)
+    }
+}
+
+/// What a call returned and left.
+struct Left<T> {
+    outcome: T,
+    lent: Vec<Lent>,
+}
+
+fn call<T>(case: &Case, job: fn(Job, &[usize], &mut [&mut [u8]]) -> T) -> Left<T> {
+    let mut lent: Vec<Lent> = case.lent.iter().map(|slice| Lent::copy(slice)).collect();
+    let mut slices: Vec<&mut [u8]> = lent.iter_mut().map(Lent::slice_mut).collect();
+    let outcome = job(case.job, &case.numbers, &mut slices);
+    Left { outcome, lent }
+}
+
+/// The first lent byte that differs, or the first touched one outside.
+fn first_byte(case: &Case, model: &[Lent], library: &[Lent]) -> Option<String> {
+    for (place, name) in case.job.form().2.iter().enumerate() {
+        let (wanted, got) = (model[place].slice(), library[place].slice());
+        if let Some(byte) = (0..wanted.len()).find(|&byte| wanted[byte] != got[byte]) {
+            let (wanted, got) = (wanted[byte], got[byte]);
+            return Some(format!(
+                "{name}[{byte}] is {wanted} after the model, {got} after the library"
+            ));
+        }
+        if let Some(byte) = library[place].touched_guard() {
+            return Some(format!("the library wrote outside {name}, at {name}[{byte}]"));
+        }
+    }
+    None
+}
+
+/// The difference between model and library, if there is one.
+fn difference(
+    case: &Case,
+    model: &Left<Outcome>,
+    library: &Left<Option<Outcome>>,
+) -> Option<String> {
+    let outcome = library.outcome?;
+    let byte = first_byte(case, &model.lent, &library.lent);
+    if outcome == model.outcome && byte.is_none() {
+        return None;
+    }
+    let bytes = byte.unwrap_or("all lent bytes are equal".to_string());
+    Some(format!("the model says {:?}, the library {outcome:?}; {bytes}", model.outcome))
+}
+
+/// Compares one case; gives the model's outcome and the first bytes it left in
+/// the last slice, which hold the list after a read.
+pub fn compare(case: &Case, seed: u64) -> Result<(Outcome, Vec<u8>), String> {
+    let model = call(case, call_model);
+    let library = call(case, call_library);
+    if let Some(difference) = difference(case, &model, &library) {
+        return Err(difference);
+    }
+    let after: Vec<&[u8]> = model.lent.iter().map(Lent::slice).collect();
+    checks::check(case, model.outcome, &after, seed)?;
+    let last = after.last().map_or(Vec::new(), |slice| slice.to_vec());
+    Ok((model.outcome, last))
+}
+
+/// A case and what both made of it, for a person to read.
+pub fn describe(case: &Case) -> String {
+    let (name, numbers, slices) = case.job.form();
+    let mut text = format!("job {name}\n");
+    for (name, number) in numbers.iter().zip(&case.numbers) {
+        text.push_str(&format!("  {name} = {number}\n"));
+    }
+    for (name, slice) in slices.iter().zip(&case.lent) {
+        text.push_str(&format!("  {name}, {} bytes: {}\n", slice.len(), shown(name, slice)));
+    }
+    text.push_str(&format!("  model   says {:?}\n", call(case, call_model).outcome));
+    match call(case, call_library).outcome {
+        Some(outcome) => text.push_str(&format!("  library says {outcome:?}\n")),
+        None => text.push_str("  the library does not have this job\n"),
+    }
+    text.push_str(&results(case));
+    text
+}
+
+/// The answer rows of a run, or the lists of a read given all the room it needs.
+fn results(case: &Case) -> String {
+    let mut roomy = case.clone();
+    if case.job == Job::Read {
+        roomy.lent[2].resize(ENTRY_BYTES * case.lent[0].len(), 0);
+    }
+    let model = call(&roomy, call_model);
+    let library = call(&roomy, call_library);
+    let both =
+        [("model", Some(model.outcome), model.lent), ("library", library.outcome, library.lent)];
+    let mut text = String::new();
+    for (who, outcome, lent) in both {
+        match (case.job, outcome) {
+            (Job::Read, Some(Made(made))) => {
+                text.push_str(&format!("list of the {who}:\n{}", printed(lent[2].slice(), made)));
+            }
+            (Job::Run, Some(Made(_))) => {
+                let cds = shown("cds", lent[3].slice());
+                text.push_str(&format!("  cds after the {who:<7}: {cds}\n"));
+            }
+            _ => {}
+        }
+    }
+    text
+}
+
+/// Rows as digits where they hold 0 and 1, all else in hex, repeats shortened.
+fn shown(name: &str, slice: &[u8]) -> String {
+    let is_row = (name == "cdm" || name == "cds") && slice.iter().all(|&byte| byte < 2);
+    if is_row {
+        return slice.iter().map(|byte| char::from(b'0' + byte)).collect();
+    }
+    if slice.len() > 1 && slice.iter().all(|&byte| byte == slice[0]) {
+        return format!("all {:02x}", slice[0]);
+    }
+    slice.iter().map(|byte| format!("{byte:02x}")).collect::<Vec<_>>().join(" ")
+}
+
+fn printed(list: &[u8], entries: usize) -> String {
+    let end = entries.saturating_mul(ENTRY_BYTES).min(list.len());
+    let list = &list[..end];
+    let mut text = vec![0; 40 + 60 * list.len()];
+    match list_to_text(list, &mut text) {
+        Made(bytes) => String::from_utf8_lossy(&text[..bytes]).to_string(),
+        _ => format!("{list:?}\n"),
+    }
+}

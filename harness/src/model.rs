@@ -1,0 +1,29 @@
+//! Paper 01 as a plain program. Each file holds one part of the paper.
+
+pub mod account;
+pub mod build;
+pub mod chain;
+pub mod check;
+pub mod entry;
+pub mod frame;
+pub mod list;
+pub mod reader;
+pub mod replay;
+pub mod rows;
+pub mod text;
+
+pub use build::{build_command, build_read, build_write};
+pub use chain::run;
+pub use list::{list_to_text, read};
+pub use text::{rows_to_text, text_to_rows};
+
+/// What a job returns.
+#[derive(Clone, Copy, PartialEq, Eq, Debug)]
+pub enum Outcome {
+    /// How many columns, bytes or entries were made.
+    Made(usize),
+    /// The number of the refusal.
+    Refused(u8),
+    /// Refusal 11 with its line, counted from 1.
+    BadLine(usize),
+}

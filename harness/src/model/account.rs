@@ -1,0 +1,139 @@
+//! The chain's account: "worked out from the slaves and the master row, not
+//! the answers". It cuts the row at its rests and takes each frame as a whole,
+//! so that it shares no stepping with chain.rs and reader.rs.
+
+use super::chain::allows;
+use super::check::{check_bits, BYTE_BITS, HEADER_BITS};
+use super::entry::{Entry, Kind};
+use super::frame::{FIRST_LOCK, REGISTERS};
+use super::rows::ZEROS_TO_REST;
+
+pub struct Account<'a> {
+    slaves: usize,
+    rights: &'a [u8],
+    pub registers: Vec<u8>,
+    pub entries: Vec<Entry>,
+}
+
+/// The account of a whole row; the arguments must be ones `run` does not refuse.
+pub fn account<'a>(slaves: usize, rights: &'a [u8], registers: &[u8], cdm: &[u8]) -> Account<'a> {
+    let mut account =
+        Account { slaves, rights, registers: registers.to_vec(), entries: Vec::new() };
+    let mut rest = rest_after(cdm, 0);
+    while let Some(start) = rest.and_then(|rest| first_one(cdm, rest)) {
+        rest = rest_after(cdm, start);
+        let stop = rest.unwrap_or(cdm.len());
+        account.frame(start, &cdm[start..stop]);
+        if let Some(column) = rest {
+            account.entries.push(Entry::of(Kind::End).at(column));
+        }
+    }
+    account
+}
+
+/// The column of the first fourteenth zero, counting zeros from column `from`.
+pub fn rest_after(cdm: &[u8], from: usize) -> Option<usize> {
+    let mut runs = cdm[from..].windows(ZEROS_TO_REST);
+    runs.position(|run| run.iter().all(|&bit| bit == 0))
+        .map(|first| from + first + ZEROS_TO_REST - 1)
+}
+
+fn first_one(cdm: &[u8], from: usize) -> Option<usize> {
+    cdm[from..].iter().position(|&bit| bit == 1).map(|ahead| from + ahead)
+}
+
+/// Bits as a number, highest first.
+fn number(bits: &[u8]) -> u16 {
+    bits.iter().fold(0, |word, &bit| word << 1 | u16::from(bit))
+}
+
+impl Account<'_> {
+    fn note(&mut self, column: usize, entry: Entry) {
+        self.entries.push(entry.at(column));
+    }
+
+    /// `frame` is the columns from S on that lie before a fourteenth zero.
+    fn frame(&mut self, start: usize, frame: &[u8]) {
+        let idl8 = usize::from(FIRST_LOCK) + 8;
+        if frame.len() <= idl8 {
+            return;
+        }
+        let locks = self.slaves.min(9) as u8;
+        self.note(start + idl8, Entry::of(Kind::Lock).value(locks));
+        if frame.len() <= 15 {
+            return;
+        }
+        let word = number(&frame[1..12]);
+        if number(&frame[12..16]) != u16::from(check_bits(word, HEADER_BITS)) {
+            self.note(start + 15, Entry::of(Kind::BadHead));
+        } else if frame[1] == 0 {
+            let cmd = (word & 3) as u8;
+            let ids = (word >> 2) as u8;
+            self.note(start + 15, Entry::of(Kind::Command).place(cmd, 0).value(ids));
+        } else if frame.len() > 17 {
+            self.register_access(start, frame);
+        }
+    }
+
+    fn register_access(&mut self, start: usize, frame: &[u8]) {
+        let id = number(&frame[2..5]) as u8;
+        let address = number(&frame[5..12]) as u8;
+        let (r, w) = (frame[16], frame[17]);
+        let kind = if r == w {
+            Kind::Pair
+        } else if usize::from(id) >= self.slaves {
+            Kind::Absent
+        } else if !self.is_allowed(id, address, w == 1) {
+            Kind::Refused
+        } else {
+            return self.bytes(start + 18, &frame[18..], id, address, w == 1);
+        };
+        let value = if kind == Kind::Refused { w } else { 0 };
+        self.note(start + 17, Entry::of(kind).place(id, address).value(value));
+    }
+
+    /// `columns` are those after W; byte n has the fourteen from 14n on.
+    fn bytes(&mut self, first: usize, columns: &[u8], id: u8, address: u8, writing: bool) {
+        for (n, byte) in columns.chunks(14).enumerate() {
+            let column = first + 14 * n;
+            let address = address + n as u8;
+            if byte[0] == 0 || byte.len() <= 12 {
+                return;
+            }
+            let kind = if writing { self.write(id, address, byte) } else { Kind::Read };
+            let value =
+                if writing { number(&byte[1..9]) as u8 } else { self.register(id, address) };
+            self.note(column + 12, Entry::of(kind).place(id, address).value(value));
+            if byte.len() <= 13 {
+                return;
+            }
+            let next_is_good = address < 127 && self.is_allowed(id, address + 1, writing);
+            if n + 1 == 64 || !next_is_good || kind == Kind::WriteBad {
+                self.note(column + 13, Entry::of(Kind::Closed).place(id, address));
+                return;
+            }
+        }
+    }
+
+    fn write(&mut self, id: u8, address: u8, byte: &[u8]) -> Kind {
+        let data = number(&byte[1..9]);
+        if number(&byte[9..13]) != u16::from(check_bits(data, BYTE_BITS)) {
+            return Kind::WriteBad;
+        }
+        self.registers[place(id, address)] = data as u8;
+        Kind::Written
+    }
+
+    fn register(&self, id: u8, address: u8) -> u8 {
+        self.registers[place(id, address)]
+    }
+
+    fn is_allowed(&self, id: u8, address: u8, writing: bool) -> bool {
+        allows(self.rights[place(id, address)], writing)
+    }
+}
+
+/// "The far slave is ID 0", and "chain order in the buffers is far slave first".
+pub fn place(id: u8, address: u8) -> usize {
+    REGISTERS * usize::from(id) + usize::from(address)
+}

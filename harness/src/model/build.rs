@@ -1,0 +1,94 @@
+//! "A row is fourteen zeros and one frame."
+
+use super::check::{check_bits, command_word, register_word, BYTE_BITS, HEADER_BITS};
+use super::rows::ZEROS_TO_REST;
+use super::Outcome::{self, Made, Refused};
+
+const MOST_BYTES: usize = 64;
+
+/// Puts bits into a row, one column after the other.
+struct Pen<'a> {
+    row: &'a mut [u8],
+    column: usize,
+}
+
+impl Pen<'_> {
+    /// The lowest `width` bits of `word`, highest first.
+    fn put(&mut self, word: u16, width: u32) {
+        for place in (0..width).rev() {
+            self.row[self.column] = (word >> place & 1) as u8;
+            self.column += 1;
+        }
+    }
+
+    /// Fourteen zeros, S and the header with its check bits.
+    fn put_header(&mut self, word: u16) {
+        self.put(0, ZEROS_TO_REST as u32);
+        self.put(1, 1);
+        self.put(word, HEADER_BITS);
+        self.put(u16::from(check_bits(word, HEADER_BITS)), 4);
+    }
+}
+
+fn is_bad_access(id: u8, address: u8, count: usize) -> bool {
+    id > 7
+        || address > 127
+        || count == 0
+        || count > MOST_BYTES
+        || usize::from(address) + count > 128
+}
+
+/// "Reading n bytes takes 32 + 14n columns, writing n lent bytes likewise."
+fn access_columns(count: usize) -> usize {
+    32 + 14 * count
+}
+
+pub fn build_read(id: u8, address: u8, count: usize, out: &mut [u8]) -> Outcome {
+    if is_bad_access(id, address, count) {
+        return Refused(10);
+    }
+    if out.len() < access_columns(count) {
+        return Refused(9);
+    }
+    let mut pen = Pen { row: out, column: 0 };
+    pen.put_header(register_word(id, address));
+    pen.put(0b10, 2);
+    for _ in 0..count {
+        pen.put(1, 1);
+        pen.put(0, 12);
+        pen.put(0, 1);
+    }
+    Made(pen.column)
+}
+
+pub fn build_write(id: u8, address: u8, bytes: &[u8], out: &mut [u8]) -> Outcome {
+    if is_bad_access(id, address, bytes.len()) {
+        return Refused(10);
+    }
+    if out.len() < access_columns(bytes.len()) {
+        return Refused(9);
+    }
+    let mut pen = Pen { row: out, column: 0 };
+    pen.put_header(register_word(id, address));
+    pen.put(0b01, 2);
+    for &byte in bytes {
+        let data = u16::from(byte);
+        pen.put(1, 1);
+        pen.put(data, BYTE_BITS);
+        pen.put(u16::from(check_bits(data, BYTE_BITS)), 4);
+        pen.put(0, 1);
+    }
+    Made(pen.column)
+}
+
+pub fn build_command(ids: u8, cmd: u8, out: &mut [u8]) -> Outcome {
+    if cmd > 3 {
+        return Refused(10);
+    }
+    if out.len() < 30 {
+        return Refused(9);
+    }
+    let mut pen = Pen { row: out, column: 0 };
+    pen.put_header(command_word(ids, cmd));
+    Made(pen.column)
+}

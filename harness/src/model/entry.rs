@@ -1,0 +1,89 @@
+//! "Six bytes: kind, column (two bytes, high first), id, address, value."
+
+pub const ENTRY_BYTES: usize = 6;
+
+#[derive(Clone, Copy, PartialEq, Eq, Debug)]
+pub enum Kind {
+    Lock = 1,
+    LockOdd = 2,
+    BadHead = 3,
+    Command = 4,
+    Pair = 5,
+    Absent = 6,
+    Refused = 7,
+    Odd = 8,
+    Mute = 9,
+    Read = 10,
+    Written = 11,
+    ReadBad = 12,
+    WriteBad = 13,
+    Echo = 14,
+    End = 15,
+    Closed = 16,
+}
+
+/// An entry; "fields not named are 0".
+#[derive(Clone, Copy, PartialEq, Eq, Debug)]
+pub struct Entry {
+    pub kind: Kind,
+    pub column: usize,
+    pub id: u8,
+    pub address: u8,
+    pub value: u8,
+}
+
+impl Entry {
+    pub fn of(kind: Kind) -> Entry {
+        Entry { kind, column: 0, id: 0, address: 0, value: 0 }
+    }
+
+    pub fn at(self, column: usize) -> Entry {
+        Entry { column, ..self }
+    }
+
+    pub fn place(self, id: u8, address: u8) -> Entry {
+        Entry { id, address, ..self }
+    }
+
+    pub fn value(self, value: u8) -> Entry {
+        Entry { value, ..self }
+    }
+
+    pub fn bytes(self) -> [u8; ENTRY_BYTES] {
+        let high = (self.column >> 8) as u8;
+        let low = (self.column & 0xFF) as u8;
+        [self.kind as u8, high, low, self.id, self.address, self.value]
+    }
+}
+
+/// How a kind is printed: its name and which fields it names.
+pub struct Form {
+    pub name: &'static str,
+    pub id: bool,
+    pub address: bool,
+    pub value: bool,
+}
+
+const fn form(name: &'static str, id: bool, address: bool, value: bool) -> Form {
+    Form { name, id, address, value }
+}
+
+/// The forms of kinds 1 to 16, in this order.
+pub const FORMS: [Form; 16] = [
+    form("lock", false, false, true),
+    form("lockodd", false, false, false),
+    form("badhead", false, false, false),
+    form("command", true, false, true),
+    form("pair", true, true, false),
+    form("absent", true, true, false),
+    form("refused", true, true, true),
+    form("odd", true, true, true),
+    form("mute", true, true, false),
+    form("read", true, true, true),
+    form("written", true, true, true),
+    form("readbad", true, true, true),
+    form("writebad", true, true, true),
+    form("echo", true, true, true),
+    form("end", false, false, false),
+    form("closed", true, true, false),
+];

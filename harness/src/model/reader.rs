@@ -1,0 +1,207 @@
+//! The reader: two recorded bits a column, at most one entry.
+
+use super::check::{check_is_right, BYTE_BITS, HEADER_BITS};
+use super::entry::{Entry, Kind};
+use super::frame::{BYTE_AND_CHECK, FIRST_LOCK, LAST_HEADER, MOST_BYTES};
+use super::rows::Zeros;
+
+const LAST_ADDRESS: u8 = 127;
+
+/// A register access at the byte that is under way.
+#[derive(Clone, Copy)]
+struct Access {
+    id: u8,
+    address: u8,
+    writing: bool,
+    /// Bytes begun, the present one included.
+    nth: u8,
+}
+
+/// What the reader awaits in the next column.
+#[derive(Clone, Copy)]
+enum Awaits {
+    /// Deaf, or not yet at rest.
+    Rest,
+    Start,
+    Header {
+        column: u8,
+        bits: u16,
+        locks: u16,
+    },
+    R {
+        id: u8,
+        address: u8,
+    },
+    W {
+        id: u8,
+        address: u8,
+        r: u8,
+        answered_r: u8,
+    },
+    ByteStart(Access),
+    Byte {
+        access: Access,
+        done: u8,
+        cdm: u16,
+        cds: u16,
+    },
+    P(Access),
+}
+
+pub struct Reader {
+    zeros: Zeros,
+    frame_begun: bool,
+    /// The lock value of the present frame.
+    lock: u8,
+    awaits: Awaits,
+}
+
+impl Reader {
+    pub fn let_in() -> Reader {
+        Reader { zeros: Zeros::none_yet(), frame_begun: false, lock: 0, awaits: Awaits::Rest }
+    }
+
+    pub fn step(&mut self, cdm: u8, cds: u8) -> Option<Entry> {
+        if self.zeros.rest_after(cdm) {
+            self.awaits = Awaits::Start;
+            let ends = self.frame_begun;
+            self.frame_begun = false;
+            return ends.then_some(Entry::of(Kind::End));
+        }
+        match self.awaits {
+            Awaits::Rest => None,
+            Awaits::Start => self.start(cdm),
+            Awaits::Header { column, bits, locks } => {
+                self.header(column, bits << 1 | u16::from(cdm), locks << 1 | u16::from(cds))
+            }
+            Awaits::R { id, address } => {
+                self.awaits = Awaits::W { id, address, r: cdm, answered_r: cds };
+                None
+            }
+            Awaits::W { id, address, r, answered_r } => {
+                self.w(id, address, (r, cdm), (answered_r, cds))
+            }
+            Awaits::ByteStart(access) => self.byte_start(access, cdm, cds),
+            Awaits::Byte { access, done, cdm: sent, cds: answered } => self.byte(
+                access,
+                done + 1,
+                sent << 1 | u16::from(cdm),
+                answered << 1 | u16::from(cds),
+            ),
+            Awaits::P(access) => self.p(access, cds),
+        }
+    }
+
+    /// Gives an entry after which the reader is deaf.
+    fn deaf_after(&mut self, entry: Entry) -> Option<Entry> {
+        self.awaits = Awaits::Rest;
+        Some(entry)
+    }
+
+    fn start(&mut self, cdm: u8) -> Option<Entry> {
+        if cdm == 1 {
+            self.frame_begun = true;
+            self.awaits = Awaits::Header { column: 1, bits: 0, locks: 0 };
+        }
+        None
+    }
+
+    /// `column` counts from 1 after S; the bits include this column's.
+    fn header(&mut self, column: u8, bits: u16, locks: u16) -> Option<Entry> {
+        if column == LAST_HEADER {
+            return self.header_end(bits);
+        }
+        self.awaits = Awaits::Header { column: column + 1, bits, locks };
+        if column == FIRST_LOCK + 8 {
+            return self.locks(locks & 0x1FF);
+        }
+        None
+    }
+
+    /// IDL0 is the highest of the nine bits.
+    fn locks(&mut self, locks: u16) -> Option<Entry> {
+        let ones = locks.count_ones();
+        let ones_then_zeros = (0x1FF << (9 - ones)) & 0x1FF;
+        if locks != ones_then_zeros {
+            return self.deaf_after(Entry::of(Kind::LockOdd));
+        }
+        self.lock = ones as u8;
+        Some(Entry::of(Kind::Lock).value(self.lock))
+    }
+
+    fn header_end(&mut self, bits: u16) -> Option<Entry> {
+        let word = bits >> 4;
+        if !check_is_right(bits, HEADER_BITS) {
+            return self.deaf_after(Entry::of(Kind::BadHead));
+        }
+        if word >> 10 == 0 {
+            let cmd = (word & 3) as u8;
+            let ids = (word >> 2) as u8;
+            return self.deaf_after(Entry::of(Kind::Command).place(cmd, 0).value(ids));
+        }
+        self.awaits = Awaits::R { id: (word >> 7 & 7) as u8, address: (word & 127) as u8 };
+        None
+    }
+
+    fn w(&mut self, id: u8, address: u8, sent: (u8, u8), answered: (u8, u8)) -> Option<Entry> {
+        let (r, w) = sent;
+        let locked = id < self.lock;
+        let entry = if r == w {
+            Entry::of(Kind::Pair)
+        } else if !locked && answered == (0, 0) {
+            Entry::of(Kind::Absent)
+        } else if locked && answered == (r, 1 - w) {
+            Entry::of(Kind::Refused).value(w)
+        } else if locked && answered == (r, w) {
+            self.awaits = Awaits::ByteStart(Access { id, address, writing: w == 1, nth: 1 });
+            return None;
+        } else {
+            Entry::of(Kind::Odd).value(2 * answered.0 + answered.1)
+        };
+        self.deaf_after(entry.place(id, address))
+    }
+
+    fn byte_start(&mut self, access: Access, cdm: u8, cds: u8) -> Option<Entry> {
+        if cdm == 0 {
+            self.awaits = Awaits::Rest;
+            return None;
+        }
+        if cds == 0 {
+            return self.deaf_after(Entry::of(Kind::Mute).place(access.id, access.address));
+        }
+        self.awaits = Awaits::Byte { access, done: 0, cdm: 0, cds: 0 };
+        None
+    }
+
+    /// `done` counts this column; the bits include this column's.
+    fn byte(&mut self, access: Access, done: u8, cdm: u16, cds: u16) -> Option<Entry> {
+        if done < BYTE_AND_CHECK {
+            self.awaits = Awaits::Byte { access, done, cdm, cds };
+            return None;
+        }
+        self.awaits = Awaits::P(access);
+        let carried = if access.writing { cdm } else { cds };
+        let kind = match (access.writing, check_is_right(carried, BYTE_BITS)) {
+            (false, true) => Kind::Read,
+            (false, false) => Kind::ReadBad,
+            (true, false) => Kind::WriteBad,
+            (true, true) if cds != cdm => Kind::Echo,
+            (true, true) => Kind::Written,
+        };
+        let value = (carried >> 4) as u8;
+        Some(Entry::of(kind).place(access.id, access.address).value(value))
+    }
+
+    fn p(&mut self, access: Access, cds: u8) -> Option<Entry> {
+        if cds == 1 {
+            return self.deaf_after(Entry::of(Kind::Closed).place(access.id, access.address));
+        }
+        if access.address == LAST_ADDRESS || access.nth == MOST_BYTES {
+            let entry = Entry::of(Kind::Odd).value(4);
+            return self.deaf_after(entry.place(access.id, access.address));
+        }
+        let (address, nth) = (access.address + 1, access.nth + 1);
+        self.awaits = Awaits::ByteStart(Access { address, nth, ..access });
+        None
+    }
+}

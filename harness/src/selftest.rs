@@ -1,0 +1,215 @@
+//! The bench card of paper 01, tried on the model.
+
+use crate::model::account::account;
+use crate::model::check::{check_bits, command_word, register_word, BYTE_BITS, HEADER_BITS};
+use crate::model::entry::{Entry, Kind, ENTRY_BYTES};
+use crate::model::list::list;
+use crate::model::Outcome::{self, BadLine, Made, Refused};
+use crate::model::{
+    build_command, build_read, build_write, list_to_text, read, rows_to_text, run, text_to_rows,
+};
+
+/// Collects what failed.
+struct Card {
+    tried: usize,
+    failed: Vec<String>,
+}
+
+impl Card {
+    fn same<T: PartialEq + std::fmt::Debug>(&mut self, what: &str, got: T, wanted: T) {
+        self.tried += 1;
+        if got != wanted {
+            self.failed.push(format!("{what}: got {got:?}, wanted {wanted:?}"));
+        }
+    }
+}
+
+/// How many values were tried, and the failures.
+pub fn selftest() -> (usize, Vec<String>) {
+    let mut card = Card { tried: 0, failed: Vec::new() };
+    check_values(&mut card);
+    locks(&mut card);
+    worked_run(&mut card);
+    other_runs(&mut card);
+    limits(&mut card);
+    easy_errors(&mut card);
+    easy_answers(&mut card);
+    texts(&mut card);
+    (card.tried, card.failed)
+}
+
+fn check_values(card: &mut Card) {
+    for (byte, check) in [(0x00, 0xF), (0x01, 0xC), (0x80, 0x1), (0xFF, 0xB), (0x5A, 0x0)] {
+        card.same(&format!("check of byte {byte:02X}"), check_bits(byte, BYTE_BITS), check);
+    }
+    let headers = [(0, 0x00, 0x6), (0, 0x44, 0xD), (1, 0x41, 0xC), (0, 0x7C, 0x9), (7, 0x7F, 0x0)];
+    for (id, address, check) in headers {
+        let got = check_bits(register_word(id, address), HEADER_BITS);
+        card.same(&format!("check of ID {id} address {address:02X}"), got, check);
+    }
+    for (cmd, check) in [(2, 0x9), (0, 0xF)] {
+        let got = check_bits(command_word(0, cmd), HEADER_BITS);
+        card.same(&format!("check of broadcast CMD {cmd}"), got, check);
+    }
+}
+
+fn built_read(id: u8, address: u8, count: usize) -> Vec<u8> {
+    let mut row = vec![0; 32 + 14 * count];
+    build_read(id, address, count, &mut row);
+    row
+}
+
+/// Answers of a chain with all rights 3 and the given registers.
+fn answers(slaves: usize, registers: &mut [u8], cdm: &[u8]) -> Vec<u8> {
+    let mut cds = vec![0; cdm.len()];
+    let outcome = run(slaves, &vec![3; 128 * slaves], registers, cdm, &mut cds);
+    assert_eq!(outcome, Made(cdm.len()));
+    cds
+}
+
+fn locks(card: &mut Card) {
+    for (slaves, lock) in [(0, 0), (1, 1), (8, 8), (9, 9), (16, 9)] {
+        let cdm = built_read(0, 0, 1);
+        let cds = answers(slaves, &mut vec![0; 128 * slaves], &cdm);
+        let first = list(&cdm, &cds, 0).first().copied();
+        let wanted = Some(Entry::of(Kind::Lock).at(23).value(lock));
+        card.same(&format!("locks of {slaves} slaves"), first, wanted);
+    }
+}
+
+/// Prints the list of two rows as the indexing program does.
+fn printed(cdm: &[u8], cds: &[u8]) -> String {
+    let mut entries = vec![0; ENTRY_BYTES * cdm.len()];
+    let Made(made) = read(cdm, cds, 0, &mut entries) else { return "refused".to_string() };
+    let mut text = vec![0; 100 + 40 * made];
+    let Made(length) = list_to_text(&entries[..ENTRY_BYTES * made], &mut text) else {
+        return "refused".to_string();
+    };
+    String::from_utf8_lossy(&text[..length]).to_string()
+}
+
+fn worked_run(card: &mut Card) {
+    let mut registers = vec![0; 128];
+    registers[0x44] = 0x5A;
+    let mut cdm = built_read(0, 0x44, 1);
+    card.same("columns of the built read", cdm.len(), 46);
+    cdm.push(0);
+    let cds = answers(1, &mut registers, &cdm);
+    let whole = "event\tcolumn\tid\taddress\tvalue\n\
+                 lock\t23\t-\t-\t1\nread\t44\t0\t68\t90\nend\t46\t-\t-\t-\n";
+    card.same("the worked run", printed(&cdm, &cds), whole.to_string());
+    let without_end = whole.replace("end\t46\t-\t-\t-\n", "");
+    card.same("last column taken off", printed(&cdm[..46], &cds[..46]), without_end);
+    let late = answers(1, &mut registers, &cdm[1..]);
+    let none = "event\tcolumn\tid\taddress\tvalue\n".to_string();
+    card.same("thirteen zeros before S", printed(&cdm[1..], &late), none);
+    card.same("thirteen zeros: no answer", late.contains(&1), false);
+}
+
+fn other_runs(card: &mut Card) {
+    let cdm = built_read(0, 127, 1);
+    let cds = answers(1, &mut [0; 128], &cdm);
+    card.same("P at address 127", cds[45], 1);
+    let cdm = built_read(0, 126, 1);
+    let cds = answers(1, &mut [0; 128], &cdm);
+    card.same("P at address 126", cds[45], 0);
+    let cdm = built_read(0, 0, 64);
+    let cds = answers(1, &mut [7; 128], &cdm);
+    card.same("P of the 63rd byte", cds[32 + 14 * 62 + 13], 0);
+    card.same("P of the 64th byte", cds[32 + 14 * 63 + 13], 1);
+    let account = account(1, &[3; 128], &[7; 128], &cdm);
+    card.same("account of 64 bytes", account.entries, list(&cdm, &cds, 0));
+}
+
+fn limits(card: &mut Card) {
+    let mut out = [9; 1000];
+    card.same("64 bytes from 64", build_read(0, 64, 64, &mut out), Made(928));
+    card.same("byte past the row", out[928], 9);
+    card.same("64 bytes from 65", build_read(0, 65, 64, &mut out), Refused(10));
+    card.same("64 written from 65", build_write(0, 65, &[0; 64], &mut out), Refused(10));
+    card.same("id 8", build_read(8, 0, 1, &mut out), Refused(10));
+    card.same("count 0", build_write(0, 0, &[], &mut out), Refused(10));
+    card.same("a count without end", build_read(0, 0, usize::MAX, &mut out), Refused(10));
+    card.same("10 before 9", build_read(8, 0, 1, &mut []), Refused(10));
+    card.same("one column short", build_read(0, 0, 1, &mut out[..45]), Refused(9));
+    card.same("CMD 4", build_command(0, 4, &mut out), Refused(10));
+    card.same("a command", build_command(0, 2, &mut out), Made(30));
+    let command: Vec<u8> = [[0; 14].as_slice(), &[1], &[0; 9], &[1, 0], &[1, 0, 0, 1]].concat();
+    card.same("columns of broadcast CMD 2", out[..30].to_vec(), command);
+}
+
+fn kinds(cdm: &[u8], cds: &[u8]) -> Vec<(Kind, usize)> {
+    list(cdm, cds, 0).iter().map(|entry| (entry.kind, entry.column)).collect()
+}
+
+fn easy_errors(card: &mut Card) {
+    let mut cdm = [0; 30].to_vec();
+    cdm[14] = 1;
+    cdm[15] = 1;
+    let cds = answers(1, &mut [0; 128], &cdm);
+    let wanted = vec![(Kind::Lock, 23), (Kind::End, 29)];
+    card.same("S, CTS = 1, fourteen zeros", kinds(&cdm, &cds), wanted);
+
+    let mut cdm = [0; 46];
+    build_write(0, 5, &[0x5A], &mut cdm);
+    let mut registers = [0; 128];
+    answers(1, &mut registers, &cdm[..44]);
+    card.same("nothing stored before the last check bit", registers[5], 0);
+    answers(1, &mut registers, &cdm[..45]);
+    card.same("stored at the last check bit", registers[5], 0x5A);
+
+    let mut registers = [0; 256];
+    answers(2, &mut registers, &cdm);
+    card.same("the far slave is ID 0", (registers[5], registers[128 + 5]), (0x5A, 0));
+}
+
+fn easy_answers(card: &mut Card) {
+    let mut cdm = [0; 46];
+    build_write(0, 5, &[0x5A], &mut cdm);
+    let nobody = answers(0, &mut [], &cdm);
+    let wanted = vec![(Kind::Lock, 23), (Kind::Absent, 31)];
+    card.same("unanswered write, nobody there", kinds(&cdm, &nobody), wanted);
+    let mut cds = [0; 46];
+    run(1, &[1; 128], &mut [0; 128], &cdm, &mut cds);
+    let wanted = vec![(Kind::Lock, 23), (Kind::Refused, 31)];
+    card.same("refused write", kinds(&cdm, &cds), wanted);
+}
+
+fn texts(card: &mut Card) {
+    let (mut cdm, mut cds) = ([9; 3], [9; 3]);
+    let mut back = |text: &str| -> (Outcome, [u8; 3], [u8; 3]) {
+        (cdm, cds) = ([9; 3], [9; 3]);
+        let outcome = text_to_rows(text.as_bytes(), &mut cdm, &mut cds);
+        (outcome, cdm, cds)
+    };
+    let untouched = [9; 3];
+    let good = back("cdm\tcds\n0\t1\n1\t0\n");
+    card.same("two columns", good, (Made(2), [0, 1, 9], [1, 0, 9]));
+    card.same("no columns", back("cdm\tcds\n"), (Made(0), untouched, untouched));
+    for (text, line) in [
+        ("", 1),
+        ("cdm\tcds", 1),
+        ("cdm cds\n", 1),
+        ("cdm\tcds\n\n", 2),
+        ("cdm\tcds\n0\t1", 2),
+        ("cdm\tcds\n0\t1\n2\t0\n", 3),
+        ("cdm\tcds\n0\t1\n0\t0\r\n", 3),
+        ("cdm\tcds\n0\t1\n0\t0\n\n", 4),
+    ] {
+        card.same(text, back(text), (BadLine(line), untouched, untouched));
+    }
+    let four = "cdm\tcds\n0\t0\n0\t0\n0\t0\n0\t0\n";
+    card.same("four columns in three", back(four), (Refused(9), untouched, untouched));
+    let mut text = [0; 16];
+    card.same("rows to text", rows_to_text(&[0, 1], &[1, 0], &mut text), Made(16));
+    card.same("its bytes", &text, b"cdm\tcds\n0\t1\n1\t0\n");
+}
+
+#[cfg(test)]
+mod tests {
+    #[test]
+    fn bench_card() {
+        let (_, failed) = super::selftest();
+        assert!(failed.is_empty(), "{failed:#?}");
+    }
+}
