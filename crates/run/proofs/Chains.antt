@@ -7,7 +7,8 @@ use Prim.Native.Nat.{ℕ, suc, _+_, _-_, _*_, _≤_, _<_}
 use native.Mathlib.Numerals.{add-one}
 use native.Mathlib.Omega.{arith}
 use lib.ListN.{length, take, drop, getD, set}
-use lib.Seq.{slice, slice-empty, slice-cons, take-suc-set, take-set-le, take-set-lt, drop-set-add, drop-set-lt, drop-drop, getD-take, getD-drop, length-take-le}
+use lib.Seq.{slice, slice-empty, slice-cons, take-suc-set, take-set-le, take-set-lt, drop-set-add, drop-set-lt}
+use lib.Seq.{drop-drop, getD-take, getD-drop, length-take-le}
 use Rattle.line.specs.Limits.{registerCount}
 use Rattle.line.specs.Memory.{Memory, stored}
 use Rattle.line.specs.Slave as line

@@ -31,7 +31,8 @@ pub record Holds (slaves : ℕ) (registers rights : List ℕ) : Type 0 where
   pub all-rights : length rights ≡ registerCount * slaves
 
 -- A column of the chain, over the first so many of the slaves.
-pub record Columned (slaves : List Slave) (count : ℕ) (m : Bool) (rights registers : List ℕ) (r : Column) (registers′ : List ℕ) : Type 0 where
+pub record Columned (slaves : List Slave) (count : ℕ) (m : Bool) (rights registers : List ℕ) (r : Column)
+    (registers′ : List ℕ) : Type 0 where
   pub sixteen : length (r .slaves) ≡ slaveLimit
   pub passed :
       column (chainOf (take count slaves) registers rights) m

@@ -2,7 +2,7 @@
 -- left of the row takes the chain of now where the whole row takes the first. Assumes nothing.
 use mathlib.Core.List.{map, _++_}
 use mathlib.Core.Path.{_≡_, refl, sym, _∙_}
-use Prim.Native.Nat.{_+_, _-_, _≤_}
+use Prim.Native.Nat.{_+_, _-_, _≤_, _<_}
 use native.Mathlib.Omega.{arith}
 use borrow.Author.Needs.{needs}
 use lib.ListN.{length, length-set, take, drop}
@@ -17,7 +17,11 @@ use Rattle.run.proofs.answer_row.Tie as tie
 
 abbrev Inv-loop : tie.InvT-loop
 Inv-loop slaves rights registers₀ cdm cds₀ chain₀ i₀ registers cds chain i =
-    (i ≤ length cdm) × (length chain ≡ slaveLimit) × (length registers ≡ length registers₀) × (length cds ≡ length cds₀) × (take i cds ++ map num (answers (chainOf (take slaves chain) registers rights) (rowOf (drop i cdm))) ≡ map num (answersFrom (memoriesOf slaves registers₀ rights) (rowOf cdm))) × (after (chainOf (take slaves chain) registers rights) (rowOf (drop i cdm)) ≡ after (switchedOn (memoriesOf slaves registers₀ rights)) (rowOf cdm))
+    (i ≤ length cdm) × (length chain ≡ slaveLimit) × (length registers ≡ length registers₀) × (length cds ≡ length cds₀)
+    × (take i cds ++ map num (answers (chainOf (take slaves chain) registers rights) (rowOf (drop i cdm)))
+    ≡ map num (answersFrom (memoriesOf slaves registers₀ rights) (rowOf cdm)))
+    × (after (chainOf (take slaves chain) registers rights) (rowOf (drop i cdm))
+    ≡ after (switchedOn (memoriesOf slaves registers₀ rights)) (rowOf cdm))
 
 abbrev μ-loop : tie.MeasureT-loop
 μ-loop slaves rights registers₀ cdm cds₀ chain₀ i₀ registers cds chain i = length cdm - i
@@ -30,7 +34,8 @@ unfolding answersFrom
 loop-holds c =
     let start = c .before .before .before .before .before in
     let a = start .args in
-    let e = starts (c .new .result) (c .new .ensures) (a .slaves) slaveLimit (a .registers .now) (a .rights .now) (start .pre .0 .few) in
+    let e =
+    starts (c .new .result) (c .new .ensures) (a .slaves) slaveLimit (a .registers .now) (a .rights .now) (start .pre .0 .few) in
     (search needs, refl, refl, refl, rw e, rw e)
 
 shared-slice-read-pass-column : tie.Need-shared-slice-read-pass-column Inv-loop μ-loop
@@ -59,12 +64,13 @@ loop-again c =
     let passed = c .before .before .before .before .pass-column in
     let test = c .before .before .before .before .before .before .before in
     let l = test .before .loop in
-    let start = test .before .before .before .before .before .before .before in (
+    let start = test .before .before .before .before .before .before .before in
+    let room : l .i < length (l .cds) = omega (arith, l .inv .3, start .pre .1, test .loop-test .taken) in (
       search needs,
       passed .ensures .sixteen,
       passed .kept .1 .1 .1 .1 .0 ∙ l .inv .2,
       rw length-set (l .inv .3),
-      sym (row-next _ _ _ _ (l .i) (test .loop-test .taken) (passed .ensures .passed) (l .cds) (omega (arith, l .inv .3, start .pre .1, test .loop-test .taken))) ∙ l .inv .4,
+      sym (row-next _ _ _ _ (l .i) (test .loop-test .taken) (passed .ensures .passed) (l .cds) room) ∙ l .inv .4,
       sym (after-next _ _ _ _ (l .i) (test .loop-test .taken) (passed .ensures .passed)) ∙ l .inv .5,
     )
 

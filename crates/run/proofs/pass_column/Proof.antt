@@ -14,7 +14,8 @@ use Rattle.run.proofs.pass_column.Tie as tie
 
 abbrev Inv-loop : tie.InvT-loop
 Inv-loop count master rights registers₀ chain₀ bit₀ i₀ registers chain bit i =
-    (i ≤ count) × (length chain ≡ slaveLimit) × (length registers ≡ length registers₀) × (column (chainOf (take count chain₀) registers₀ rights) master ≡ midway rights master count i chain registers bit)
+    (i ≤ count) × (length chain ≡ slaveLimit) × (length registers ≡ length registers₀)
+    × (column (chainOf (take count chain₀) registers₀ rights) master ≡ midway rights master count i chain registers bit)
 
 abbrev μ-loop : tie.MeasureT-loop
 μ-loop count master rights registers₀ chain₀ bit₀ i₀ registers chain bit i = count - i
@@ -71,7 +72,9 @@ loop-again c =
       search needs,
       rw length-set (l .inv .1),
       rw length-set (l .inv .2),
-      l .inv .3 ∙ turn _ _ _ (l .i) (l .chain) (l .registers) (l .bit) _ _ (step .result) (test .loop-test .taken) (omega (arith, l .inv .1, start .pre .few)) (place .ensures .0) (place .ensures .1) (step .ensures),
+      l .inv .3
+          ∙ turn _ _ _ (l .i) (l .chain) (l .registers) (l .bit) _ _ (step .result)
+          (test .loop-test .taken) (omega (arith, l .inv .1, start .pre .few)) (place .ensures .0) (place .ensures .1) (step .ensures),
     )
 
 same-length : tie.Need-same-length Inv-loop μ-loop
