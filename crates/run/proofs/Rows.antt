@@ -112,7 +112,9 @@ module _ {n i k : ℕ} {registers rights cdm cds part cds′ : List ℕ} (gone :
       ∙ omega (arith, length-take-le (registerCount * i) registers (omega (arith, gone .long)), own)
 
   split : stored ≡ front ++ past (i + 1) registers
-  split = rw (gone .size, past-next i registers) (sym (append-assoc (take (registerCount * i) registers) part (past (i + 1) registers)))
+  split =
+      rw (gone .size, past-next i registers)
+      (sym (append-assoc (take (registerCount * i) registers) part (past (i + 1) registers)))
 
   behind : past (i + 1) stored ≡ past (i + 1) registers
   behind = ap (past (i + 1)) split ∙ drop-at front (past (i + 1) registers) (registerCount * (i + 1)) front-long

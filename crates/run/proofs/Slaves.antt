@@ -80,4 +80,6 @@ passed rights registers cdm cds registers′ cds′ s i past full a e =
 -- One byte more is 0.
 pub cleared-next : (cds : List ℕ) (i : ℕ) → i < length cds → take i cds ≡ replicate i 0
     → take (i + 1) (set cds i 0) ≡ replicate (i + 1) 0
-cleared-next cds i h e = rw (add-one, take-suc-set cds i 0 h, e) (replicate-append-replicate i 1 0 ∙ ap (λ (n : ℕ). replicate n 0) (add-one i))
+cleared-next cds i h e =
+    rw (add-one, take-suc-set cds i 0 h, e)
+    (replicate-append-replicate i 1 0 ∙ ap (λ (n : ℕ). replicate n 0) (add-one i))

@@ -73,8 +73,8 @@ fn row_refusal(cdm: &[u8], columns: usize) -> u8
     }
 }
 
-// The chain from power-on, a slave a turn, far slave first: "the bit enters at the far end as 0 and goes slave by slave to the
-// master" (01, Chain). A slave's bits depend on the slaves before it alone, so each goes over the whole row, its state in registers.
+// The chain from power-on, a slave a turn: "the bit enters at the far end as 0 and goes slave by slave to the master" (01, Chain). What
+// a slave sends hangs on the slaves before it alone, so each goes over the whole row, and no array of slaves is carried.
 fn answer_row(slaves: usize, rights: &[u8], registers: &mut [u8], cdm: &[u8], cds: &mut [u8])
     requires { ⌜ (Holds slaves (now registers) (now rights)) × (length (now cds) ≡ length (now cdm)) ⌝ }
     ensures { λ r. ⌜ Rowed slaves (now (rights .entry)) (now (registers .entry)) (now (cdm .entry)) (now (registers .exit)) (now (cds .exit)) ⌝ }

@@ -96,7 +96,8 @@ loop-again c =
     let start = test .before .before .before .before .before .before .before .before .before .before in
     let a = start .args in
     let k = registerCount * l .i + registerCount - registerCount * l .i in
-    let gone : Gone (a .slaves) (l .i) k (l .registers) (a .rights .now) (a .cdm .now) (l .cds) (pass .last .1 .0) (pass .last .1 .1 .1 .0)
+    let gone : Gone (a .slaves) (l .i) k (l .registers) (a .rights .now) (a .cdm .now) (l .cds)
+    (pass .last .1 .0) (pass .last .1 .1 .1 .0)
     = record {
       size = omega arith;
       small = test .loop-test .taken;

@@ -75,7 +75,9 @@ loop-again c =
     let l = test .before .loop in
     let start = test .before .before .before .before .before .before .before in
     let room : l .i < length (l .cds) = omega (arith, l .inv .2, start .pre .2, test .loop-test .taken) in
-    let own = own-step (l .registers) (start .args .rights .now) (l .slave) (place .result) _ _ (step .result) (place .ensures .0) (step .ensures) in (
+    let own =
+    own-step (l .registers) (start .args .rights .now) (l .slave) (place .result) _ _ (step .result)
+    (place .ensures .0) (step .ensures) in (
       search needs,
       rw length-set (l .inv .1),
       rw length-set (l .inv .2),
