@@ -54,7 +54,8 @@ module _ (slaves : ℕ) (registers rights cdm cds : List ℕ) (e : refusal slave
   unfolding rowRefusal
   same-rows =
       sym
-      (eqb-true _ _ (not-false _ (not-first _ 5 _ (then-rest (ltb columnLimit (length cdm) || ltb columnLimit (length cds)) 4 _ past-four))))
+      (eqb-true _ _
+      (not-false _ (not-first _ 5 _ (then-rest (ltb columnLimit (length cdm) || ltb columnLimit (length cds)) 4 _ past-four))))
 
 module _ (slaves : ℕ) (rights registers cdm cds : List ℕ) where
   pub ran-refused : (why : ℕ) → why ≡ refusal slaves (length registers) rights cdm (length cds) → (why ≡ 0 → ⊥)

@@ -1,4 +1,5 @@
-pub mod Chains
+pub mod Turned
+pub mod Slaves
 pub mod Rows
 pub mod Ends
 mod Unique

@@ -1,92 +1,168 @@
--- A row, column by column: what is left of it, the chain at power-on, and the registers that the chain leaves. Assumes nothing.
+-- A row, slave by slave: those that have gone over it, and those that have yet to. Assumes nothing.
 use mathlib.Core.Path.{_≡_, refl, sym, ap, _∙_}
 use mathlib.Core.Bool.{Bool, true, false}
 use mathlib.Core.List.{List, [], _∷_, _++_, map, append-nil, append-assoc}
-use Prim.Native.Nat.{ℕ, zero, suc, _+_, _*_, _≤_, _<_}
-use native.Mathlib.Numerals.{add-one}
+use Prim.Native.Nat.{ℕ, zero, suc, _+_, _-_, _*_, _≤_, _<_}
 use native.Mathlib.Omega.{arith}
-use mir.Val.{boolByte}
-use lib.ListN.{length, take, drop, getD, set, replicate, drop-of-length-le, take-append-drop, length-drop}
-use lib.Seq.{drop-cons, take-all, take-suc-set, length-take-le}
+use lib.ListN.{length, length-map, length-append, length-drop, take, drop, replicate}
+use lib.Seq.{drop-drop, take-all, length-take-le, take-at, drop-at}
 use Rattle.line.specs.Limits.{registerCount}
 use Rattle.line.specs.Bits.{num, bitOf, rowOf}
-use Rattle.line.specs.Rest.{powerOn}
 use Rattle.line.specs.Slave as line
-use Rattle.line.specs.Chain.{Passed, column, answers, after, switchedOn, memories, answersFrom, memoriesAfter}
-use Rattle.slave.specs.Code.{stateOf}
-use Rattle.slave.specs.declared.Slave.{Slave}
+use Rattle.line.specs.Chain.{switchedOn, memories, answersFrom, memoriesAfter}
 use Rattle.run.specs.Run.{memoriesOf, registersOf}
-use Rattle.run.specs.Parts.{chainOf, Rowed}
+use Rattle.run.specs.Parts.{sentBy, newBy, Passed, Rowed}
+use Rattle.run.proofs.Turned.{allSent, allLeft, answers-turned, after-turned}
 
-bool-num : (b : Bool) → boolByte b ≡ num b
-bool-num true = refl
-bool-num false = refl
+-- A row's bytes are its bits.
+row-num : (bs : List Bool) → rowOf (map num bs) ≡ bs
+unfolding rowOf
+row-num [] = refl
+row-num (true ∷ bs) = ap (λ (l : List Bool). true ∷ l) (row-num bs)
+row-num (false ∷ bs) = ap (λ (l : List Bool). false ∷ l) (row-num bs)
 
--- One column of the row: its answer, and what is left.
-module _ (ss ss′ : List line.Slave) (b : Bool) (cdm : List ℕ) (i : ℕ) (small : i < length cdm)
-    (passed : column ss (bitOf (getD cdm i 0)) ≡ record { slaves = ss′; answer = b }) where
-  answers-next : answers ss (rowOf (drop i cdm)) ≡ b ∷ answers ss′ (rowOf (drop (i + 1) cdm))
-  unfolding rowOf answers
-  answers-next = rw (drop-cons cdm i 0 small, passed, add-one)
+row-zeros : (n : ℕ) → rowOf (replicate n 0) ≡ replicate n false
+unfolding rowOf
+row-zeros zero = refl
+row-zeros (suc n) = ap (λ (l : List Bool). false ∷ l) (row-zeros n)
 
-  pub after-next : after ss (rowOf (drop i cdm)) ≡ after ss′ (rowOf (drop (i + 1) cdm))
-  unfolding rowOf after
-  after-next =
-      rw (drop-cons cdm i 0 small, add-one) (ap (λ (p : Passed). after (p .slaves) (rowOf (drop (suc i) cdm))) passed)
+num-zeros : (n : ℕ) → map num (replicate n false) ≡ replicate n 0
+num-zeros zero = refl
+num-zeros (suc n) = ap (λ (l : List ℕ). 0 ∷ l) (num-zeros n)
 
-  -- The answers so far, with those that are left behind them.
-  pub row-next : (cds : List ℕ) → i < length cds
-      → take i cds ++ map num (answers ss (rowOf (drop i cdm)))
-      ≡ take (i + 1) (set cds i (boolByte b)) ++ map num (answers ss′ (rowOf (drop (i + 1) cdm)))
-  row-next cds h =
-      rw (answers-next, add-one, take-suc-set cds i (boolByte b) h, append-assoc, bool-num b)
+-- The bytes of the slaves from place i on.
+abbrev pub past : ℕ → List ℕ → List ℕ
+past i bytes = drop (registerCount * i) bytes
 
--- At power-on the code's slaves are line's.
-pub starts : (s : Slave) → stateOf s ≡ powerOn → (n l : ℕ) (registers rights : List ℕ) → n ≤ l
-    → chainOf (take n (replicate l s)) registers rights ≡ switchedOn (memoriesOf n registers rights)
-unfolding chainOf switchedOn memoriesOf
-starts s e zero l registers rights h = refl
-starts s e (suc n) zero registers rights h = absurd (omega arith)
-starts s e (suc n) (suc l) registers rights h =
-    rw (e, starts s e n l (drop registerCount registers) (drop registerCount rights) (omega arith))
+past-next : (i : ℕ) (bytes : List ℕ) → drop registerCount (past i bytes) ≡ past (i + 1) bytes
+past-next i bytes =
+    let e : registerCount * i + registerCount ≡ registerCount * (i + 1) = omega arith in
+    rw e at (drop-drop registerCount (registerCount * i) bytes)
 
--- The memories of a chain are those of its bytes ..
-memories-chain : (ss : List Slave) (registers rights : List ℕ)
-    → memories (chainOf ss registers rights) ≡ memoriesOf (length ss) registers rights
-unfolding chainOf memoriesOf
-memories-chain [] registers rights = refl
-memories-chain (s ∷ ss) registers rights =
-    rw (memories-chain ss (drop registerCount registers) (drop registerCount rights))
+-- The slaves that have yet to go over the row, at power-on.
+unfoldable pub waiting : (n i : ℕ) (registers rights : List ℕ) → List line.Slave
+waiting n i registers rights = switchedOn (memoriesOf (n - i) (past i registers) (past i rights))
 
--- .. and their registers, one after the other, all that were lent.
-registers-back : (n : ℕ) (registers rights : List ℕ) → length registers ≡ registerCount * n
-    → registersOf (memoriesOf n registers rights) ≡ registers
-unfolding registersOf memoriesOf
-registers-back zero [] rights h = refl
-registers-back zero (x ∷ xs) rights h = absurd (omega arith)
-registers-back (suc n) registers rights h =
-    rw (registers-back n (drop registerCount registers) (drop registerCount rights) (rw length-drop (omega arith)))
-    (take-append-drop registerCount registers)
+waiting-next : (n i : ℕ) (registers rights : List ℕ) → i < n
+    → waiting n i registers rights
+    ≡ newBy (take registerCount (past i registers)) (take registerCount (past i rights)) ∷ waiting n (i + 1) registers rights
+unfolding waiting switchedOn memoriesOf
+waiting-next n i registers rights h =
+    let e : n - i ≡ suc (n - (i + 1)) = omega arith in
+    rw (e, past-next i registers, past-next i rights)
 
--- Past the last column every answer stands, and the registers are what the run leaves.
-pub rowed : (n : ℕ) (rights registers cdm registers′ cds′ : List ℕ) (chain : List Slave) (i : ℕ)
-    → length cdm ≤ i → length cds′ ≤ i → n ≤ length chain → length registers′ ≡ registerCount * n
-    → take i cds′ ++ map num (answers (chainOf (take n chain) registers′ rights) (rowOf (drop i cdm)))
-    ≡ map num (answersFrom (memoriesOf n registers rights) (rowOf cdm))
-    → after (chainOf (take n chain) registers′ rights) (rowOf (drop i cdm))
-    ≡ after (switchedOn (memoriesOf n registers rights)) (rowOf cdm)
+waiting-none : (n i : ℕ) (registers rights : List ℕ) → n ≤ i → waiting n i registers rights ≡ []
+unfolding waiting switchedOn memoriesOf
+waiting-none n i registers rights h = let e : n - i ≡ 0 = omega arith in rw e
+
+-- The registers of those that have gone over the row, with those of the others behind them.
+unfoldable pub gathered : (n i : ℕ) (registers rights cdm cds : List ℕ) → List ℕ
+gathered n i registers rights cdm cds =
+    take (registerCount * i) registers
+    ++ registersOf (memories (allLeft (waiting n i registers rights) (rowOf cdm) (rowOf cds)))
+
+-- At first all are waiting, and the bits are 0.
+module _ (n : ℕ) (registers rights cdm : List ℕ) where
+  zeros : rowOf (replicate (length cdm) 0) ≡ replicate (length (rowOf cdm)) false
+  unfolding rowOf
+  zeros = row-zeros (length cdm) ∙ ap (λ (k : ℕ). replicate k false) (sym (length-map cdm bitOf))
+
+  pub sent-first : allSent (waiting n 0 registers rights) (rowOf cdm) (rowOf (replicate (length cdm) 0))
+      ≡ answersFrom (memoriesOf n registers rights) (rowOf cdm)
+  unfolding waiting answersFrom
+  sent-first =
+      let e : n - 0 ≡ n = omega arith in rw (zeros, e) (answers-turned (switchedOn (memoriesOf n registers rights)) (rowOf cdm))
+
+  pub gathered-first : gathered n 0 registers rights cdm (replicate (length cdm) 0)
+      ≡ registersOf (memoriesAfter (memoriesOf n registers rights) (rowOf cdm))
+  unfolding gathered waiting memoriesAfter
+  gathered-first =
+      let e : n - 0 ≡ n = omega arith in
+      rw (zeros, e, after-turned (switchedOn (memoriesOf n registers rights)) (rowOf cdm))
+
+pub bits-first : (n : ℕ) → map num (rowOf (replicate n 0)) ≡ replicate n 0
+bits-first n = rw (row-zeros n) (num-zeros n)
+
+-- A slave's own bytes.
+pub own-long : (k i : ℕ) (bytes : List ℕ) → k ≡ registerCount → registerCount * i + registerCount ≤ length bytes
+    → length (take k (past i bytes)) ≡ registerCount
+own-long k i bytes e h = rw e (length-take-le registerCount (past i bytes) (rw length-drop (omega arith)))
+
+-- One slave has gone over the row: `part` are its registers afterwards, k of them.
+pub record Gone (n i k : ℕ) (registers rights cdm cds part cds′ : List ℕ) : Type 0 where
+  pub size : k ≡ registerCount
+  pub small : i < n
+  pub long : registerCount * i + registerCount ≤ length registers
+  pub same : length part ≡ length (take k (past i registers))
+  pub passed : Passed (take k (past i rights)) (take k (past i registers)) cdm cds part cds′
+
+module _ {n i k : ℕ} {registers rights cdm cds part cds′ : List ℕ} (gone : Gone n i k registers rights cdm cds part cds′) where
+  abbrev front : List ℕ
+  front = take (registerCount * i) registers ++ part
+
+  abbrev stored : List ℕ
+  stored = take (registerCount * i) registers ++ (part ++ drop k (past i registers))
+
+  own : length part ≡ registerCount
+  own = gone .same ∙ own-long k i registers (gone .size) (gone .long)
+
+  front-long : length front ≡ registerCount * (i + 1)
+  front-long =
+      length-append (take (registerCount * i) registers) part
+      ∙ omega (arith, length-take-le (registerCount * i) registers (omega (arith, gone .long)), own)
+
+  split : stored ≡ front ++ past (i + 1) registers
+  split =
+      rw (gone .size, past-next i registers)
+      (sym (append-assoc (take (registerCount * i) registers) part (past (i + 1) registers)))
+
+  behind : past (i + 1) stored ≡ past (i + 1) registers
+  behind = ap (past (i + 1)) split ∙ drop-at front (past (i + 1) registers) (registerCount * (i + 1)) front-long
+
+  before : take (registerCount * (i + 1)) stored ≡ front
+  before = ap (take (registerCount * (i + 1))) split ∙ take-at front (past (i + 1) registers) (registerCount * (i + 1)) front-long
+
+  others : waiting n (i + 1) stored rights ≡ waiting n (i + 1) registers rights
+  unfolding waiting
+  others = rw behind
+
+  abbrev this : line.Slave
+  this = newBy (take registerCount (past i registers)) (take registerCount (past i rights))
+
+  this-gone : Passed (take registerCount (past i rights)) (take registerCount (past i registers)) cdm cds part cds′
+  this-gone = rw (gone .size) at (gone .passed)
+
+  bits : rowOf cds′ ≡ sentBy this (rowOf cdm) (rowOf cds)
+  bits = ap rowOf (this-gone .sent) ∙ row-num (sentBy this (rowOf cdm) (rowOf cds))
+
+  pub stored-long : length stored ≡ length registers
+  stored-long =
+      ap length split ∙ length-append front (past (i + 1) registers)
+      ∙ rw length-drop (omega (arith, front-long, gone .long))
+
+  pub bits-next : map num (rowOf cds′) ≡ cds′
+  bits-next = ap (map num) bits ∙ sym (this-gone .sent)
+
+  pub sent-next : allSent (waiting n i registers rights) (rowOf cdm) (rowOf cds)
+      ≡ allSent (waiting n (i + 1) stored rights) (rowOf cdm) (rowOf cds′)
+  unfolding allSent
+  sent-next = rw (waiting-next n i registers rights (gone .small), others, bits)
+
+  pub gathered-next : gathered n i registers rights cdm cds ≡ gathered n (i + 1) stored rights cdm cds′
+  unfolding gathered allLeft registersOf
+  gathered-next =
+      rw (waiting-next n i registers rights (gone .small), others, bits, before, append-assoc, ← this-gone .left)
+
+-- At last none are waiting.
+pub rowed : (n : ℕ) (rights registers cdm registers′ cds′ : List ℕ) (i : ℕ) → n ≤ i → length registers′ ≤ registerCount * i
+    → map num (rowOf cds′) ≡ cds′
+    → allSent (waiting n i registers′ rights) (rowOf cdm) (rowOf cds′) ≡ answersFrom (memoriesOf n registers rights) (rowOf cdm)
+    → gathered n i registers′ rights cdm cds′ ≡ registersOf (memoriesAfter (memoriesOf n registers rights) (rowOf cdm))
     → Rowed n rights registers cdm registers′ cds′
-unfolding rowOf answers after memoriesAfter
-rowed n rights registers cdm registers′ cds′ chain i past full held long a s =
-    let ends : drop i cdm ≡ [] = drop-of-length-le cdm past in
-    let ss : List line.Slave = chainOf (take n chain) registers′ rights in
-    let last : ss ≡ after (switchedOn (memoriesOf n registers rights)) (rowOf cdm) = rw ends at s in
-    let own : memories ss ≡ memoriesOf n registers′ rights
-    = memories-chain (take n chain) registers′ rights
-    ∙ ap (λ (k : ℕ). memoriesOf k registers′ rights) (length-take-le n chain held) in
+unfolding allSent allLeft gathered registersOf
+rowed n rights registers cdm registers′ cds′ i h l b a g =
+    let none : waiting n i registers′ rights ≡ [] = waiting-none n i registers′ rights h in
     record {
-      row = sym (append-nil cds′) ∙ rw (ends, take-all i cds′ full) at a;
-      registers-after =
-          sym (registers-back n registers′ rights long) ∙ ap registersOf (sym own)
-          ∙ ap (λ (l : List line.Slave). registersOf (memories l)) last;
+      row = sym b ∙ ap (map num) (rw none at a);
+      registers-after = sym (take-all (registerCount * i) registers′ l) ∙ sym (append-nil _) ∙ rw none at g;
     }

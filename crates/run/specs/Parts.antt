@@ -1,28 +1,35 @@
--- The chain that the code holds, and what its two loops do to it: nothing here is needed to read what run promises.
+-- One slave over a whole row, and the slaves one after the other, as the code takes them: nothing here is needed to read what run
+-- promises. That this is line's chain, which goes column by column, is proved (proofs/Turned).
 use mathlib.Core.Path.{_≡_}
 use mathlib.Core.Bool.{Bool}
 use mathlib.Core.List.{List, [], _∷_, map}
 use Prim.Native.Nat.{ℕ, _*_, _≤_}
-use lib.ListN.{length, take, drop}
+use lib.ListN.{length}
 use Rattle.line.specs.Limits.{slaveLimit, registerCount}
 use Rattle.line.specs.Bits.{num, rowOf}
+use Rattle.line.specs.Rest.{powerOn}
 use Rattle.line.specs.Memory.{Memory}
 use Rattle.line.specs.Slave as line
-use Rattle.line.specs.Chain.{column, answersFrom, memoriesAfter}
-use Rattle.slave.specs.Code.{stateOf}
-use Rattle.slave.specs.declared.Slave.{Slave}
+use Rattle.line.specs.Chain.{answersFrom, memoriesAfter}
 use Rattle.run.specs.Run.{memoriesOf, registersOf}
-use Rattle.run.specs.declared.Column.{Column}
 
--- The first memory of the lent registers and rights.
-abbrev pub firstOf : (registers rights : List ℕ) → Memory
-firstOf registers rights = record { registers = take registerCount registers; rights = take registerCount rights }
+-- The bits that a slave sends, from the master's and its far neighbour's ..
+unfoldable pub sentBy : line.Slave → (ms bs : List Bool) → List Bool
+sentBy s [] bs = []
+sentBy s (m ∷ ms) [] = []
+sentBy s (m ∷ ms) (b ∷ bs) = let t : line.Step = line.step s m b in t .sent ∷ sentBy (t .slave) ms bs
 
--- The code's slaves with their memories, as line's chain.
-unfoldable pub chainOf : List Slave → (registers rights : List ℕ) → List line.Slave
-chainOf [] registers rights = []
-chainOf (s ∷ ss) registers rights =
-    line.slave (firstOf registers rights) (stateOf s) ∷ chainOf ss (drop registerCount registers) (drop registerCount rights)
+-- .. and what it is then.
+unfoldable pub leftBy : line.Slave → (ms bs : List Bool) → line.Slave
+leftBy s [] bs = s
+leftBy s (m ∷ ms) [] = s
+leftBy s (m ∷ ms) (b ∷ bs) = leftBy (line.step s m b .slave) ms bs
+
+abbrev pub memoryBy : (registers rights : List ℕ) → Memory
+memoryBy registers rights = record { registers = registers; rights = rights }
+
+abbrev pub newBy : (registers rights : List ℕ) → line.Slave
+newBy registers rights = line.slave (memoryBy registers rights) powerOn
 
 -- The lent registers and rights hold so many slaves.
 pub record Holds (slaves : ℕ) (registers rights : List ℕ) : Type 0 where
@@ -30,12 +37,10 @@ pub record Holds (slaves : ℕ) (registers rights : List ℕ) : Type 0 where
   pub all-registers : length registers ≡ registerCount * slaves
   pub all-rights : length rights ≡ registerCount * slaves
 
--- A column of the chain, over the first so many of the slaves.
-pub record Columned (slaves : List Slave) (count : ℕ) (m : Bool) (rights registers : List ℕ) (r : Column) (registers′ : List ℕ) : Type 0 where
-  pub sixteen : length (r .slaves) ≡ slaveLimit
-  pub passed :
-      column (chainOf (take count slaves) registers rights) m
-      ≡ record { slaves = chainOf (take count (r .slaves)) registers′ rights; answer = r .answer }
+-- One slave over a row: in `cds` its far neighbour's bits, and its own afterwards.
+pub record Passed (rights registers cdm cds registers′ cds′ : List ℕ) : Type 0 where
+  pub sent : cds′ ≡ map num (sentBy (newBy registers rights) (rowOf cdm) (rowOf cds))
+  pub left : memoryBy registers′ rights ≡ leftBy (newBy registers rights) (rowOf cdm) (rowOf cds) .memory
 
 -- A whole row from power-on.
 pub record Rowed (count : ℕ) (rights registers cdm registers′ cds′ : List ℕ) : Type 0 where

@@ -1,9 +1,10 @@
 // The job run: a chain of 0 to 16 slaves over a master row. It answers Made with the number of columns, or Refused with 1 to 7 and
 // every lent byte as it was.
 ghost use mathlib.Core.Path.{_≡_};
-ghost use lib.ListN.{length};
+ghost use lib.ListN.{length, replicate};
+ghost use Rattle.line.specs.Limits.{registerCount};
 ghost use Rattle.run.specs.Run.{rowRefusal, refusal, Ran};
-ghost use Rattle.run.specs.Parts.{Holds, Columned, Rowed};
+ghost use Rattle.run.specs.Parts.{Holds, Passed, Rowed};
 use job::Outcome;
 use slave::Seen;
 use slave::Slave;
@@ -19,12 +20,6 @@ const COLUMNS: usize = 4096;
 
 // "0 none, 1 read, 2 write, 3 both".
 const RIGHTS: u8 = 3;
-
-// The slaves after a column, and the bit that reaches the master.
-struct Column {
-    slaves: [Slave; 16],
-    answer: bool,
-}
 
 // Runs the chain from power-on: `registers` and `rights` hold 128 bytes a slave, far slave first, `cdm` the master row, and `cds`
 // takes the answers.
@@ -78,55 +73,53 @@ fn row_refusal(cdm: &[u8], columns: usize) -> u8
     }
 }
 
-// The chain from power-on, a column a turn.
+// The chain from power-on, a slave a turn: "the bit enters at the far end as 0 and goes slave by slave to the master" (01, Chain). What
+// a slave sends hangs on the slaves before it alone, so each goes over the whole row, and no array of slaves is carried.
 fn answer_row(slaves: usize, rights: &[u8], registers: &mut [u8], cdm: &[u8], cds: &mut [u8])
     requires { ⌜ (Holds slaves (now registers) (now rights)) × (length (now cds) ≡ length (now cdm)) ⌝ }
     ensures { λ r. ⌜ Rowed slaves (now (rights .entry)) (now (registers .entry)) (now (cdm .entry)) (now (registers .exit)) (now (cds .exit)) ⌝ }
 {
-    let first = Slave::new();
-    let mut chain = [first; 16];
+    clear(cds);
     let mut i = 0;
-    while i < cdm.len() {
-        let column = pass_column(chain, slaves, cdm[i] == 1, rights, registers);
-        let next = column.slaves;
-        chain = next;
-        cds[i] = column.answer as u8;
+    while i < slaves {
+        let at = REGISTERS * i;
+        let end = at + REGISTERS;
+        pass_slave(&rights[at..end], &mut registers[at..end], cdm, cds);
         i += 1;
     }
 }
 
-// One column: "the bit enters at the far end as 0 and goes slave by slave to the master" (01, Chain).
-fn pass_column(
-    slaves: [Slave; 16],
-    count: usize,
-    master: bool,
-    rights: &[u8],
-    registers: &mut [u8],
-) -> Column
-    requires { ⌜ Holds count (now registers) (now rights) ⌝ }
-    ensures { λ r. ⌜ Columned slaves count master (now (rights .entry)) (now (registers .entry)) r (now (registers .exit)) ⌝ }
+// "the bit enters at the far end as 0".
+fn clear(cds: &mut [u8])
+    ensures { λ r. ⌜ now (cds .exit) ≡ replicate (length (now (cds .entry))) 0 ⌝ }
 {
-    let mut chain = slaves;
-    let mut bit = false;
     let mut i = 0;
-    while i < count {
-        let slave = chain[i];
-        let at = REGISTERS * i + slave.place();
+    while i < cds.len() {
+        cds[i] = 0;
+        i += 1;
+    }
+}
+
+// One slave over the whole row: `cds` holds its far neighbour's bits, and its own afterwards.
+fn pass_slave(rights: &[u8], registers: &mut [u8], cdm: &[u8], cds: &mut [u8])
+    requires { ⌜ (length (now registers) ≡ registerCount) × (length (now rights) ≡ registerCount) × (length (now cds) ≡ length (now cdm)) ⌝ }
+    ensures { λ r. ⌜ Passed (now (rights .entry)) (now (registers .entry)) (now (cdm .entry)) (now (cds .entry)) (now (registers .exit)) (now (cds .exit)) ⌝ }
+{
+    let mut slave = Slave::new();
+    let mut i = 0;
+    while i < cdm.len() {
+        let at = slave.place();
         let seen = Seen {
-            master: master,
-            far: bit,
+            master: cdm[i] == 1,
+            far: cds[i] == 1,
             right: rights[at],
             byte: registers[at],
         };
         let turn = slave.step(seen);
         registers[at] = turn.byte;
+        cds[i] = turn.sent as u8;
         let next = turn.next;
-        chain[i] = next;
-        bit = turn.sent;
+        slave = next;
         i += 1;
-    }
-    Column {
-        slaves: chain,
-        answer: bit,
     }
 }

@@ -7,10 +7,10 @@ use borrow.Author.Tests.{lt-ltb, le-ltb, ltb-true}
 use lib.Dec.{ltb, eqb}
 use Rattle.line.specs.Limits.{registerCount, byteLimit}
 use Rattle.line.specs.Bits.{num, bit, push}
-use Rattle.line.specs.Division.{dataBits, topBit, word, fits, byteOf}
+use Rattle.line.specs.Division.{dataBits, checkWidth, topBit, word, fits, byteOf}
 use Rattle.line.specs.Memory.{Memory, allows, holds, stored}
 use Rattle.line.specs.Slave as line
-use Rattle.slave.specs.Code.{placeBy, before, nextAddress, Shows, goesOn}
+use Rattle.slave.specs.Code.{placeBy, counts, before, nextAddress, Shows, goesOn}
 use Rattle.slave.specs.declared.Body.{Body}
 use Rattle.slave.specs.declared.Seen.{Seen}
 
@@ -65,51 +65,53 @@ around a = omega arith
 
 -- The bits of a byte that is read, and the last.
 module _ (k : Memory) (a nth w : ℕ) (m b : Bool) (left : ℕ) where
-  pub sends-on : (left % 16 ≡ 0 → ⊥)
-      → line.speak k (line.sends (a % registerCount) nth (left % 16) w) m b
-      ≡ line.turn (line.sends (a % registerCount) nth ((left % 16 - 1) % 16) w) (eqb (w / 2 ^ (left % 16) % 2) 1) k
+  pub sends-on : (left % counts ≡ 0 → ⊥)
+      → line.speak k (line.sends (a % registerCount) nth (left % counts) w) m b
+      ≡ line.turn (line.sends (a % registerCount) nth ((left % counts - 1) % counts) w) (eqb (w / 2 ^ (left % counts) % 2) 1) k
   unfolding line.speak bit
-  sends-on h = go (left % 16) h (omega arith)
+  sends-on h = go (left % counts) h (omega arith)
     where
-      go : (n : ℕ) → (n ≡ 0 → ⊥) → n < 16
+      go : (n : ℕ) → (n ≡ 0 → ⊥) → n < counts
           → line.speak k (line.sends (a % registerCount) nth n w) m b
-          ≡ line.turn (line.sends (a % registerCount) nth ((n - 1) % 16) w) (eqb (w / 2 ^ n % 2) 1) k
+          ≡ line.turn (line.sends (a % registerCount) nth ((n - 1) % counts) w) (eqb (w / 2 ^ n % 2) 1) k
       go zero h l = absurd (h refl)
-      go (suc n) h l = let e : (suc n - 1) % 16 ≡ n = omega arith in rw e
+      go (suc n) h l = let e : (suc n - 1) % counts ≡ n = omega arith in rw e
 
-  pub sends-last : {x : ℕ} → left % 16 ≡ 0 → x ≡ nextAddress a
-      → line.speak k (line.sends (a % registerCount) nth (left % 16) w) m b
-      ≡ line.turn (line.askP false true (before (x % registerCount)) nth) (eqb (w / 2 ^ (left % 16) % 2) 1) k
+  pub sends-last : {x : ℕ} → left % counts ≡ 0 → x ≡ nextAddress a
+      → line.speak k (line.sends (a % registerCount) nth (left % counts) w) m b
+      ≡ line.turn (line.askP false true (before (x % registerCount)) nth) (eqb (w / 2 ^ (left % counts) % 2) 1) k
   unfolding line.speak bit
   sends-last h e = rw (h, e, around a)
 
 -- The bits of a byte that is written; the last, with the check right and wrong.
 module _ (k : Memory) (a nth w : ℕ) (m b : Bool) (left : ℕ) {w′ : ℕ} where
-  pub takes-on : 0 < left % 16 → w′ ≡ push w m
-      → line.speak k (line.takes (a % registerCount) nth (left % 16) w) m b
-      ≡ line.turn (line.takes (a % registerCount) nth ((left % 16 - 1) % 16) w′) m k
+  pub takes-on : 0 < left % counts → w′ ≡ push w m
+      → line.speak k (line.takes (a % registerCount) nth (left % counts) w) m b
+      ≡ line.turn (line.takes (a % registerCount) nth ((left % counts - 1) % counts) w′) m k
   unfolding line.speak
-  takes-on h e = go (left % 16) h (omega arith)
+  takes-on h e = go (left % counts) h (omega arith)
     where
-      go : (n : ℕ) → 0 < n → n < 16
+      go : (n : ℕ) → 0 < n → n < counts
           → line.speak k (line.takes (a % registerCount) nth n w) m b
-          ≡ line.turn (line.takes (a % registerCount) nth ((n - 1) % 16) w′) m k
+          ≡ line.turn (line.takes (a % registerCount) nth ((n - 1) % counts) w′) m k
       go zero h l = absurd (omega arith)
-      go (suc n) h l = let q : (suc n - 1) % 16 ≡ n = omega arith in rw (q, e)
+      go (suc n) h l = let q : (suc n - 1) % counts ≡ n = omega arith in rw (q, e)
 
-  pub takes-good : {x : ℕ} {f : Bool} → left % 16 ≤ 0 → w′ ≡ push w m → x ≡ nextAddress a → f ≡ fits dataBits w′ → f ≡ true
-      → line.speak k (line.takes (a % registerCount) nth (left % 16) w) m b
-      ≡ line.turn (line.askP true true (before (x % registerCount)) nth) m (stored k (a % registerCount) (w′ / 16 % 256))
+  pub takes-good : {x : ℕ} {f : Bool} → left % counts ≤ 0 → w′ ≡ push w m → x ≡ nextAddress a
+      → f ≡ fits dataBits w′ → f ≡ true
+      → line.speak k (line.takes (a % registerCount) nth (left % counts) w) m b
+      ≡ line.turn (line.askP true true (before (x % registerCount)) nth) m (stored k (a % registerCount) (w′ / 2 ^ checkWidth % 2 ^ dataBits))
   unfolding line.speak byteOf
   takes-good h e g p q =
-      let none-left : left % 16 ≡ 0 = omega arith in rw (none-left, ← e, ← p, q, g, around a)
+      let none-left : left % counts ≡ 0 = omega arith in rw (none-left, ← e, ← p, q, g, around a)
 
-  pub takes-bad : {x : ℕ} {f : Bool} → left % 16 ≤ 0 → w′ ≡ push w m → x ≡ nextAddress a → f ≡ fits dataBits w′ → f ≡ false
-      → line.speak k (line.takes (a % registerCount) nth (left % 16) w) m b
+  pub takes-bad : {x : ℕ} {f : Bool} → left % counts ≤ 0 → w′ ≡ push w m → x ≡ nextAddress a
+      → f ≡ fits dataBits w′ → f ≡ false
+      → line.speak k (line.takes (a % registerCount) nth (left % counts) w) m b
       ≡ line.turn (line.askP true false (before (x % registerCount)) nth) m k
   unfolding line.speak
   takes-bad h e g p q =
-      let none-left : left % 16 ≡ 0 = omega arith in rw (none-left, ← e, ← p, q, g, around a)
+      let none-left : left % counts ≡ 0 = omega arith in rw (none-left, ← e, ← p, q, g, around a)
 
 left-true : (x y : Bool) → (x && y) ≡ true → x ≡ true
 left-true true y e = refl
@@ -131,7 +133,9 @@ module _ (b : Body) (right : ℕ) where
 
   pub on-many : b .good ≡ true → byteLimit ≤ b .nth → false ≡ goesOn b right
   unfolding goesOn
-  on-many h l = rw (h, le-ltb (b .nth) byteLimit l) (sym (and-false (ltb (before (placeBy b) + 1) registerCount && bit (num (b .write)) right)))
+  on-many h l =
+      rw (h, le-ltb (b .nth) byteLimit l)
+      (sym (and-false (ltb (before (placeBy b) + 1) registerCount && bit (num (b .write)) right)))
 
   pub on-right : {f : Bool} → b .good ≡ true → (placeBy b ≡ 0 → ⊥) → b .nth < byteLimit → f ≡ bit (num (b .write)) right
       → f ≡ goesOn b right

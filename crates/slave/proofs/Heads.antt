@@ -68,7 +68,8 @@ module _ (k : Memory) (column w number : ℕ) (m b : Bool) {w′ : ℕ} {number�
       let next : min (column + 1) headerColumns ≡ min column headerColumns + 1 = omega arith in
       rw (e, ← f, next, lt-ltb (min column headerColumns) lockLast (omega arith))
 
-  pub locks-end : {x : ℕ} → w′ ≡ push w m → record { number = number′; sent = sent } ≡ lockedAs column number b → lockLast ≤ column → x ≡ nextColumn column
+  pub locks-end : {x : ℕ} → w′ ≡ push w m → record { number = number′; sent = sent } ≡ lockedAs column number b
+      → lockLast ≤ column → x ≡ nextColumn column
       → line.speak k (line.locks (min column headerColumns) w (numberOf number)) m b
       ≡ line.turn (line.head (min x (headerColumns + 1)) w′ number′) sent k
   unfolding line.speak lockedAs
@@ -91,7 +92,13 @@ module _ (k : Memory) (column w number : ℕ) (m b : Bool) {w′ : ℕ} where
       ≡ line.turn (line.askR (w′ / 2 ^ checkWidth % registerCount % registerCount)) b k
   unfolding line.speak CalledAs
   head-called e h g t =
-      rw (le-ltb (min column (headerColumns + 1)) headerColumns (omega arith), ← e, g, t, mod-mod (w′ / 2 ^ checkWidth) registerCount)
+      rw (
+        le-ltb (min column (headerColumns + 1)) headerColumns (omega arith),
+        ← e,
+        g,
+        t,
+        mod-mod (w′ / 2 ^ checkWidth) registerCount,
+      )
 
   pub head-deaf : {r : Bool} → w′ ≡ push w m → headerColumns ≤ column → CalledAs w′ number r → r ≡ false
       → line.speak k (line.head (min column (headerColumns + 1)) w (numberOf number)) m b ≡ line.turn line.deaf b k
@@ -104,16 +111,17 @@ module _ (w number : ℕ) {f : Bool} where
   unfolding CalledAs line.called header
   called-wrong e g = rw (← e, g)
 
-  pub called-command : f ≡ fits headerBits w → f ≡ true → (w / 16 / 1024 % 2 ≡ 1 → ⊥) → CalledAs w number false
+  pub called-command : f ≡ fits headerBits w → f ≡ true → (w / 2 ^ checkWidth / 2 ^ 10 % 2 ≡ 1 → ⊥) → CalledAs w number false
   unfolding CalledAs line.called header bit
-  called-command e g h = rw (← e, g, ne-eqb (w / 16 / 1024 % 2) 1 h)
+  called-command e g h = rw (← e, g, ne-eqb (w / 2 ^ checkWidth / 2 ^ 10 % 2) 1 h)
 
-  pub called-access : f ≡ fits headerBits w → f ≡ true → w / 16 / 1024 % 2 ≡ 1 → CalledAs w number (eqb number (w / 16 / 128 % 8))
+  pub called-access : f ≡ fits headerBits w → f ≡ true → w / 2 ^ checkWidth / 2 ^ 10 % 2 ≡ 1
+      → CalledAs w number (eqb number (w / 2 ^ checkWidth / 2 ^ 7 % 2 ^ 3))
   unfolding CalledAs line.called header bit
-  called-access e g h = rw (← e, g, eq-eqb (w / 16 / 1024 % 2) 1 h) (id-of (ltb number idCount) refl)
+  called-access e g h = rw (← e, g, eq-eqb (w / 2 ^ checkWidth / 2 ^ 10 % 2) 1 h) (id-of (ltb number idCount) refl)
     where
       id-of : (b : Bool) → ltb number idCount ≡ b
-          → line.called (access (w / 16 / 128 % 8) (w / 16 % 128)) (numberOf number)
-          ≡ cond (eqb number (w / 16 / 128 % 8)) (line.askR (w / 16 % 128)) line.deaf
+          → line.called (access (w / 2 ^ checkWidth / 2 ^ 7 % 2 ^ 3) (w / 2 ^ checkWidth % 2 ^ 7)) (numberOf number)
+          ≡ cond (eqb number (w / 2 ^ checkWidth / 2 ^ 7 % 2 ^ 3)) (line.askR (w / 2 ^ checkWidth % 2 ^ 7)) line.deaf
       id-of true q = rw q
-      id-of false q = rw (q, ne-eqb number (w / 16 / 128 % 8) (λ e. absurd (omega (arith, ltb-false number idCount q))))
+      id-of false q = rw (q, ne-eqb number (w / 2 ^ checkWidth / 2 ^ 7 % 2 ^ 3) (λ e. absurd (omega (arith, ltb-false number idCount q))))

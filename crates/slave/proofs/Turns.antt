@@ -66,11 +66,13 @@ ended k rest z true b e = absurd (Option·none-ne-some _ (sym e))
 ended k rest z false b e = refl
 ended k (frame _ p) z m b e = rw e
 
-module _ (s : Slave) (seen : Seen) (r : Turn) {z′ : ℕ} (e : timer (s .zeros) (seen .master) ≡ cond (ltb z′ restZeros) (some z′) none) where
+module _ (s : Slave) (seen : Seen) (r : Turn) {z′ : ℕ}
+    (e : timer (s .zeros) (seen .master) ≡ cond (ltb z′ restZeros) (some z′) none) where
   pub steps-on : z′ < restZeros → Meets (s .kind) z′ (s .body) seen r → Steps s seen r
   unfolding line.step
   steps-on h meets =
-      record { over = λ k shows. rw (counts (formBy (s .kind) (s .body)) (s .zeros) (seen .master) (rw (lt-ltb z′ restZeros h) at e)) (meets .over k shows) }
+      let on : timer (s .zeros) (seen .master) ≡ some z′ = rw (lt-ltb z′ restZeros h) at e in
+      record { over = λ k shows. rw (counts (formBy (s .kind) (s .body)) (s .zeros) (seen .master) on) (meets .over k shows) }
 
   pub steps-end : restZeros ≤ z′ → r ≡ turned Rest 0 (s .body) (seen .far) (seen .byte) → Steps s seen r
   unfolding line.step

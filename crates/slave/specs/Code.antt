@@ -38,8 +38,12 @@ nextAddress address = (address % registerCount + 1) % registerCount
 abbrev pub nextColumn : ℕ → ℕ
 nextColumn column = min column headerColumns + 1
 
+-- A byte's bits are counted down from topBit; a count is read below the next power of two.
+abbrev pub counts : ℕ
+counts = 16
+
 abbrev pub leftOf : Body → ℕ
-leftOf b = b .left % 2 ^ checkWidth
+leftOf b = b .left % counts
 
 -- What a kind is with its numbers, no zeros counted ..
 abbrev pub formBy : Kind → Body → Timed line.Phase

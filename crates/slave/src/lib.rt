@@ -30,8 +30,23 @@ const REGISTERS: u64 = 128;
 // P: "fewer than 64 bytes have passed".
 const BYTES: u64 = 64;
 
-// Byte: "eight data bits, four check bits", counted down to 0.
+// Byte: "eight data bits, four check bits", counted down to 0; a count is read below the next power of two.
 const TOP_BIT: u64 = 11;
+
+const COUNTS: u64 = 16;
+
+// Header, Byte: "four check bits": the bits before them are a word's quotient by this.
+const CHECKS: u64 = 16;
+
+// Header: "CTS = 1 is a register access: ID (3 bits), address (7)": CTS stands above ten bits, ID above seven.
+const CTS: u64 = 1024;
+
+const ID: u64 = 128;
+
+const IDS: u64 = 8;
+
+// The fifteen bits that are kept under the newest one: nothing that is collected is longer.
+const KEPT: u64 = 32768;
 
 // What a slave is about. After S the names are those of the column that it waits for.
 pub enum Kind {
@@ -264,7 +279,7 @@ fn head(zeros: u64, body: Body, seen: Seen) -> Turn
         n.column = body.column + 1;
         said(Kind::Head, zeros, n, seen.far, seen.byte)
     } else if called(word, body.number) {
-        n.address = word / 16 % REGISTERS;
+        n.address = word / CHECKS % REGISTERS;
         said(Kind::AskR, zeros, n, seen.far, seen.byte)
     } else {
         said(Kind::Deaf, zeros, n, seen.far, seen.byte)
@@ -276,8 +291,8 @@ fn called(word: u64, number: u64) -> bool
     ensures { λ r. ⌜ CalledAs word number r ⌝ }
 {
     if header_fits(word) {
-        if word / 16 / 1024 % 2 == 1 {
-            number == word / 16 / 128 % 8
+        if word / CHECKS / CTS % 2 == 1 {
+            number == word / CHECKS / ID % IDS
         } else {
             false
         }
@@ -334,7 +349,7 @@ fn byte_s(zeros: u64, body: Body, seen: Seen) -> Turn
 fn sends(zeros: u64, body: Body, seen: Seen) -> Turn
     ensures { λ r. ⌜ Meets Kind.Sends zeros body seen r ⌝ }
 {
-    let left = body.left % 16;
+    let left = body.left % COUNTS;
     let sent = (body.word >> left) % 2 == 1;
     let mut n = body;
     if left == 0 {
@@ -352,7 +367,7 @@ fn sends(zeros: u64, body: Body, seen: Seen) -> Turn
 fn takes(zeros: u64, body: Body, seen: Seen) -> Turn
     ensures { λ r. ⌜ Meets Kind.Takes zeros body seen r ⌝ }
 {
-    let left = body.left % 16;
+    let left = body.left % COUNTS;
     let word = pushed(body.word, seen.master);
     let mut n = body;
     if 0 < left {
@@ -364,7 +379,13 @@ fn takes(zeros: u64, body: Body, seen: Seen) -> Turn
         n.address = next_address(body.address);
         if byte_fits(word) {
             n.good = true;
-            said(Kind::AskP, zeros, n, seen.master, (word / 16 % 256) as u8)
+            said(
+                Kind::AskP,
+                zeros,
+                n,
+                seen.master,
+                (word / CHECKS % 256) as u8,
+            )
         } else {
             n.good = false;
             said(Kind::AskP, zeros, n, seen.master, seen.byte)
@@ -424,26 +445,26 @@ fn allowed(right: u8, write: bool) -> bool
 fn pushed(word: u64, master: bool) -> u64
     ensures { λ r. ⌜ r ≡ push word master ⌝ }
 {
-    word % 32768 * 2 + master as u64
+    word % KEPT * 2 + master as u64
 }
 
 // Whether the last four bits of a header's fifteen are the check bits of the eleven before them.
 fn header_fits(word: u64) -> bool
     ensures { λ r. ⌜ r ≡ fits headerBits word ⌝ }
 {
-    word % 16 == checkbits::header_check((word / 16 % 2048) as u16) as u64
+    word % CHECKS == checkbits::header_check((word / CHECKS % 2048) as u16) as u64
 }
 
 // Whether the last four bits of a byte's twelve are the check bits of the eight before them.
 fn byte_fits(word: u64) -> bool
     ensures { λ r. ⌜ r ≡ fits dataBits word ⌝ }
 {
-    word % 16 == checkbits::byte_check((word / 16 % 256) as u8) as u64
+    word % CHECKS == checkbits::byte_check((word / CHECKS % 256) as u8) as u64
 }
 
 // A byte with its check bits behind it.
 fn checked(byte: u8) -> u64
     ensures { λ r. ⌜ r ≡ word dataBits byte ⌝ }
 {
-    16 * byte as u64 + checkbits::byte_check(byte) as u64
+    CHECKS * byte as u64 + checkbits::byte_check(byte) as u64
 }

@@ -1,52 +1,86 @@
--- `run::answer_row` meets its contract. The loop's invariant: the answers so far and those that are left are all of the row's, and what is
--- left of the row takes the chain of now where the whole row takes the first. Assumes nothing.
-use mathlib.Core.List.{map, _++_}
-use mathlib.Core.Path.{_≡_, refl, sym, _∙_}
-use Prim.Native.Nat.{_+_, _-_, _≤_}
+-- `run::answer_row` meets its contract. The loop's invariant: the slaves that have yet to go over the row make of the bits of now what
+-- the whole chain makes of zeros, and of the registers. Assumes nothing.
+use mathlib.Core.List.{map}
+use mathlib.Core.Path.{_≡_, refl, sym, ap, _∙_}
+use Prim.Native.Nat.{ℕ, _+_, _-_, _*_, _≤_}
 use native.Mathlib.Omega.{arith}
 use borrow.Author.Needs.{needs}
-use lib.ListN.{length, length-set, take, drop}
+use lib.ListN.{length, length-replicate, replicate}
 use Rattle.line.specs.Bits.{num, rowOf}
-use Rattle.line.specs.Chain.{answers, after, switchedOn, answersFrom}
-use Rattle.line.specs.Limits.{slaveLimit}
-use Rattle.run.proofs.Rows.{starts, row-next, after-next, rowed}
-use Rattle.run.specs.Parts.{chainOf}
-use Rattle.run.specs.Run.{memoriesOf}
+use Rattle.line.specs.Chain.{answersFrom, memoriesAfter}
+use Rattle.line.specs.Limits.{registerCount}
+use Rattle.run.proofs.Rows.{Gone, stored-long, bits-next, sent-next, gathered-next}
+use Rattle.run.proofs.Rows.{waiting, gathered, sent-first, gathered-first, bits-first, own-long, rowed}
+use Rattle.run.proofs.Turned.{allSent}
+use Rattle.run.specs.Run.{memoriesOf, registersOf}
 use Rattle.run.proofs.answer_row.Statement.{statement}
 use Rattle.run.proofs.answer_row.Tie as tie
 
 abbrev Inv-loop : tie.InvT-loop
-Inv-loop slaves rights registers₀ cdm cds₀ chain₀ i₀ registers cds chain i =
-    (i ≤ length cdm) × (length chain ≡ slaveLimit) × (length registers ≡ length registers₀) × (length cds ≡ length cds₀) × (take i cds ++ map num (answers (chainOf (take slaves chain) registers rights) (rowOf (drop i cdm))) ≡ map num (answersFrom (memoriesOf slaves registers₀ rights) (rowOf cdm))) × (after (chainOf (take slaves chain) registers rights) (rowOf (drop i cdm)) ≡ after (switchedOn (memoriesOf slaves registers₀ rights)) (rowOf cdm))
+Inv-loop slaves rights registers₀ cdm cds₀ i₀ registers cds i =
+    (i ≤ slaves) × (length registers ≡ length registers₀) × (length cds ≡ length cdm) × (map num (rowOf cds) ≡ cds)
+    × (allSent (waiting slaves i registers rights) (rowOf cdm) (rowOf cds)
+    ≡ answersFrom (memoriesOf slaves registers₀ rights) (rowOf cdm))
+    × (gathered slaves i registers rights cdm cds
+    ≡ registersOf (memoriesAfter (memoriesOf slaves registers₀ rights) (rowOf cdm)))
 
 abbrev μ-loop : tie.MeasureT-loop
-μ-loop slaves rights registers₀ cdm cds₀ chain₀ i₀ registers cds chain i = length cdm - i
+μ-loop slaves rights registers₀ cdm cds₀ i₀ registers cds i = slaves - i
 
-new-requires : tie.Need-new-requires Inv-loop μ-loop
-new-requires c κs = search needs
+clear-requires : tie.Need-clear-requires Inv-loop μ-loop
+clear-requires c κs = search needs
 
 loop-holds : tie.Need-loop-holds Inv-loop μ-loop
-unfolding answersFrom
 loop-holds c =
-    let start = c .before .before .before .before .before in
+    let start = c .before .before .before .before .before .before .before .before in
     let a = start .args in
-    let e = starts (c .new .result) (c .new .ensures) (a .slaves) slaveLimit (a .registers .now) (a .rights .now) (start .pre .0 .few) in
-    (search needs, refl, refl, refl, rw e, rw e)
+    let cleared = c .before .before .clear in
+    let zeros : cleared .last .0 ≡ replicate (length (a .cdm .now)) 0
+    = cleared .ensures ∙ ap (λ (n : ℕ). replicate n 0) (start .pre .1) in (
+      search needs,
+      refl,
+      rw zeros (length-replicate (length (a .cdm .now)) 0),
+      rw zeros (bits-first (length (a .cdm .now))),
+      rw zeros (sent-first (a .slaves) (a .registers .now) (a .rights .now) (a .cdm .now)),
+      rw zeros (gathered-first (a .slaves) (a .registers .now) (a .rights .now) (a .cdm .now)),
+    )
 
-shared-slice-read-pass-column : tie.Need-shared-slice-read-pass-column Inv-loop μ-loop
-shared-slice-read-pass-column c = search needs
+mul-at : tie.Need-mul-at Inv-loop μ-loop
+mul-at c = search needs
 
-pass-column-requires : tie.Need-pass-column-requires Inv-loop μ-loop
-pass-column-requires c κs =
-    let l = c .before .before .before .loop in
-    let holds = c .before .before .before .before .before .before .before .before .before .pre .0 in
-    record { few = holds .few; all-registers = l .inv .2 ∙ holds .all-registers; all-rights = holds .all-rights }
+add-end : tie.Need-add-end Inv-loop μ-loop
+add-end c = search needs
 
-cast-cds : tie.Need-cast-cds Inv-loop μ-loop
-cast-cds c = search needs
+sub-pass-slave : tie.Need-sub-pass-slave Inv-loop μ-loop
+sub-pass-slave c = search needs
 
-slice-write-cds : tie.Need-slice-write-cds Inv-loop μ-loop
-slice-write-cds c = search needs
+part-pass-slave-start : tie.Need-part-pass-slave-start Inv-loop μ-loop
+part-pass-slave-start c = search needs
+
+part-pass-slave-end : tie.Need-part-pass-slave-end Inv-loop μ-loop
+part-pass-slave-end c = search needs
+
+sub-pass-slave-2 : tie.Need-sub-pass-slave-2 Inv-loop μ-loop
+sub-pass-slave-2 c = search needs
+
+part-pass-slave-start-2 : tie.Need-part-pass-slave-start-2 Inv-loop μ-loop
+part-pass-slave-start-2 c = search needs
+
+part-pass-slave-end-2 : tie.Need-part-pass-slave-end-2 Inv-loop μ-loop
+part-pass-slave-end-2 c = search needs
+
+pass-slave-requires : tie.Need-pass-slave-requires Inv-loop μ-loop
+pass-slave-requires c κs =
+    let test = c .before .before .before in
+    let l = test .before .loop in
+    let start = c .before .before .before .before .before .before .before .before .before .before .before .before .before in
+    let holds = start .pre .0 in
+    let k = registerCount * l .i + registerCount - registerCount * l .i in
+    let size : k ≡ registerCount = omega arith in (
+      own-long k (l .i) (l .registers) size (omega (arith, l .inv .1, holds .all-registers, test .loop-test .taken)),
+      own-long k (l .i) (start .args .rights .now) size (omega (arith, holds .all-rights, test .loop-test .taken)),
+      l .inv .2,
+    )
 
 add-i : tie.Need-add-i Inv-loop μ-loop
 add-i c = search needs
@@ -56,44 +90,43 @@ loop-less c = search needs
 
 loop-again : tie.Need-loop-again Inv-loop μ-loop
 loop-again c =
-    let passed = c .before .before .before .before .pass-column in
-    let test = c .before .before .before .before .before .before .before in
+    let pass = c .before .before .before .before .pass-slave in
+    let test = c .before .before .before .before .before .before .before .before in
     let l = test .before .loop in
-    let start = test .before .before .before .before .before .before .before in (
+    let start = test .before .before .before .before .before .before .before .before .before .before in
+    let a = start .args in
+    let k = registerCount * l .i + registerCount - registerCount * l .i in
+    let gone : Gone (a .slaves) (l .i) k (l .registers) (a .rights .now) (a .cdm .now) (l .cds)
+    (pass .last .1 .0) (pass .last .1 .1 .1 .0)
+    = record {
+      size = omega arith;
+      small = test .loop-test .taken;
+      long = omega (arith, l .inv .1, start .pre .0 .all-registers, test .loop-test .taken);
+      same = pass .kept .1 .0;
+      passed = pass .ensures;
+    } in (
       search needs,
-      passed .ensures .sixteen,
-      passed .kept .1 .1 .1 .1 .0 ∙ l .inv .2,
-      rw length-set (l .inv .3),
-      sym (row-next _ _ _ _ (l .i) (test .loop-test .taken) (passed .ensures .passed) (l .cds) (omega (arith, l .inv .3, start .pre .1, test .loop-test .taken))) ∙ l .inv .4,
-      sym (after-next _ _ _ _ (l .i) (test .loop-test .taken) (passed .ensures .passed)) ∙ l .inv .5,
+      stored-long gone ∙ l .inv .1,
+      pass .kept .1 .1 .1 .0 ∙ l .inv .2,
+      bits-next gone,
+      sym (sent-next gone) ∙ l .inv .4,
+      sym (gathered-next gone) ∙ l .inv .5,
     )
 
 same-length : tie.Need-same-length Inv-loop μ-loop
-same-length c = c .before .loop .inv .2
+same-length c = c .before .loop .inv .1
 
 same-length-2 : tie.Need-same-length-2 Inv-loop μ-loop
-same-length-2 c = c .before .loop .inv .3
+same-length-2 c =
+    let start = c .before .before .before .before .before .before .before .before .before .before in
+    c .before .loop .inv .2 ∙ sym (start .pre .1)
 
 returns : tie.Need-returns Inv-loop μ-loop
 returns c =
     let l = c .before .loop in
-    let start = c .before .before .before .before .before .before .before in
-    let a = start .args in
-    rowed
-    _
-    _
-    _
-    (a .cdm .now)
-    _
-    _
-    (l .chain)
-    (l .i)
-    (c .loop-test .left)
-    (omega (arith, l .inv .3, start .pre .1, c .loop-test .left))
-    (omega (arith, l .inv .1, start .pre .0 .few))
-    (l .inv .2 ∙ start .pre .0 .all-registers)
-    (l .inv .4)
-    (l .inv .5)
+    let start = c .before .before .before .before .before .before .before .before .before .before in
+    rowed _ _ _ _ _ _ (l .i) (c .loop-test .left)
+    (omega (arith, l .inv .1, start .pre .0 .all-registers, c .loop-test .left)) (l .inv .3) (l .inv .4) (l .inv .5)
 
 pub answer-row-spec : {M : Type 1} → statement M
 answer-row-spec =
@@ -101,12 +134,17 @@ answer-row-spec =
     (tie.spec
     Inv-loop
     μ-loop
-    new-requires
+    clear-requires
     loop-holds
-    shared-slice-read-pass-column
-    pass-column-requires
-    cast-cds
-    slice-write-cds
+    mul-at
+    add-end
+    sub-pass-slave
+    part-pass-slave-start
+    part-pass-slave-end
+    sub-pass-slave-2
+    part-pass-slave-start-2
+    part-pass-slave-end-2
+    pass-slave-requires
     add-i
     loop-less
     loop-again

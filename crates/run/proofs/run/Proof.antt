@@ -30,7 +30,8 @@ returns-2 : tie.Need-returns-2
 returns-2 c =
     let row = c .before .before .before .before .answer-row in
     let through = c .before .before .before .before .before .before .before in
-    ran-made _ _ _ _ _ _ _ (sym (through .before .refusal .ensures) ∙ through .if1 .left) (row .ensures) (row .kept .1 .1 .0) (row .kept .1 .1 .1 .1 .0)
+    ran-made _ _ _ _ _ _ _ (sym (through .before .refusal .ensures) ∙ through .if1 .left) (row .ensures)
+    (row .kept .1 .1 .0) (row .kept .1 .1 .1 .1 .0)
 
 pub run-spec : {M : Type 1} → statement M
 run-spec =

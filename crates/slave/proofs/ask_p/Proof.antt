@@ -21,12 +21,14 @@ said-requires-2 c κs = search needs
 returns : tie.Need-returns
 returns c =
     let g = c .before .before .before in
-    spoke (c .said .ensures) refl refl (λ k s. asks-on k (g .before .args .body) _ _ _ s (g .goes-on .ensures) (c .before .before .if1 .taken))
+    spoke (c .said .ensures) refl refl
+    (λ k s. asks-on k (g .before .args .body) _ _ _ s (g .goes-on .ensures) (c .before .before .if1 .taken))
 
 returns-2 : tie.Need-returns-2
 returns-2 c =
     let g = c .before .before in
-    spoke (c .said2 .ensures) refl refl (λ k s. asks-end k (g .before .args .body) _ _ _ s (g .goes-on .ensures) (c .before .if1 .left))
+    spoke (c .said2 .ensures) refl refl
+    (λ k s. asks-end k (g .before .args .body) _ _ _ s (g .goes-on .ensures) (c .before .if1 .left))
 
 pub ask-p-spec : {M : Type 1} → statement M
 ask-p-spec =

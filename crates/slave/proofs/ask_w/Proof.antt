@@ -23,11 +23,15 @@ returns c = spoke (c .said .ensures) refl refl (λ k s. ask-alike k _ _ _ _ (c .
 
 returns-2 : tie.Need-returns-2
 returns-2 c =
-    spoke (c .said2 .ensures) refl refl (λ k s. ask-allowed k _ _ _ _ s (c .before .before .before .if1 .left) (c .before .before .allowed .ensures) (c .before .if2 .taken))
+    let a = c .before .before in
+    spoke (c .said2 .ensures) refl refl
+    (λ k s. ask-allowed k _ _ _ _ s (a .before .if1 .left) (a .allowed .ensures) (c .before .if2 .taken))
 
 returns-3 : tie.Need-returns-3
 returns-3 c =
-    spoke (c .said3 .ensures) refl refl (λ k s. ask-refused k _ _ _ _ s (c .before .before .before .before .if1 .left) (c .before .before .before .allowed .ensures) (c .before .before .if2 .left))
+    let a = c .before .before .before in
+    spoke (c .said3 .ensures) refl refl
+    (λ k s. ask-refused k _ _ _ _ s (a .before .if1 .left) (a .allowed .ensures) (c .before .before .if2 .left))
 
 pub ask-w-spec : {M : Type 1} → statement M
 ask-w-spec =

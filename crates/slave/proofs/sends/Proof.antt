@@ -24,12 +24,14 @@ said-requires-2 c κs = search needs
 returns : tie.Need-returns
 returns c =
     let a = c .before .before .before .before .before .args in
-    spoke (c .said .ensures) refl refl (λ k s. sends-last k (a .body .address) _ _ _ _ (a .body .left) (c .before .before .if1 .taken) (c .before .next-address .ensures))
+    spoke (c .said .ensures) refl refl
+    (λ k s. sends-last k (a .body .address) _ _ _ _ (a .body .left) (c .before .before .if1 .taken) (c .before .next-address .ensures))
 
 returns-2 : tie.Need-returns-2
 returns-2 c =
     let a = c .before .before .before .before .args in
-    spoke (c .said2 .ensures) refl refl (λ k s. sends-on k (a .body .address) _ _ _ _ (a .body .left) (c .before .if1 .left))
+    spoke (c .said2 .ensures) refl refl
+    (λ k s. sends-on k (a .body .address) _ _ _ _ (a .body .left) (c .before .if1 .left))
 
 pub sends-spec : {M : Type 1} → statement M
 sends-spec =

@@ -34,21 +34,30 @@ returns : tie.Need-returns
 returns c =
     let p = c .before .before in
     let a = p .before .before .args in
-    spoke (c .said .ensures) refl refl (λ k s. takes-on k (a .body .address) _ _ _ _ (a .body .left) (c .before .if1 .taken) (p .pushed .ensures))
+    spoke (c .said .ensures) refl refl
+    (λ k s. takes-on k (a .body .address) _ _ _ _ (a .body .left) (c .before .if1 .taken) (p .pushed .ensures))
 
 returns-2 : tie.Need-returns-2
 returns-2 c =
+    let f = c .before .before .byte-fits in
     let n = c .before .before .before in
     let p = n .before .before in
     let a = p .before .before .args in
-    stores (c .said2 .ensures) refl refl (λ k. takes-good k (a .body .address) _ _ _ _ (a .body .left) (n .before .if1 .left) (p .pushed .ensures) (n .next-address .ensures) (c .before .before .byte-fits .ensures) (c .before .if2 .taken))
+    stores (c .said2 .ensures) refl refl
+    (λ k.
+    takes-good k (a .body .address) _ _ _ _ (a .body .left)
+    (n .before .if1 .left) (p .pushed .ensures) (n .next-address .ensures) (f .ensures) (c .before .if2 .taken))
 
 returns-3 : tie.Need-returns-3
 returns-3 c =
+    let f = c .before .before .byte-fits in
     let n = c .before .before .before in
     let p = n .before .before in
     let a = p .before .before .args in
-    spoke (c .said3 .ensures) refl refl (λ k s. takes-bad k (a .body .address) _ _ _ _ (a .body .left) (n .before .if1 .left) (p .pushed .ensures) (n .next-address .ensures) (c .before .before .byte-fits .ensures) (c .before .if2 .left))
+    spoke (c .said3 .ensures) refl refl
+    (λ k s.
+    takes-bad k (a .body .address) _ _ _ _ (a .body .left)
+    (n .before .if1 .left) (p .pushed .ensures) (n .next-address .ensures) (f .ensures) (c .before .if2 .left))
 
 pub takes-spec : {M : Type 1} → statement M
 takes-spec =

@@ -1,0 +1,85 @@
+-- One slave over a row, column by column: what it has sent and what it has yet to send. Assumes nothing.
+use mathlib.Core.Path.{_≡_, refl, sym, subst, ap, _∙_}
+use mathlib.Core.Bool.{Bool, true, false}
+use mathlib.Core.List.{List, [], _++_, map, append-nil, append-assoc}
+use Prim.Native.Nat.{ℕ, suc, _+_, _≤_, _<_}
+use native.Mathlib.Numerals.{add-one}
+use native.Mathlib.Omega.{arith}
+use mir.Val.{boolByte}
+use lib.ListN.{length, take, drop, getD, set, replicate, replicate-append-replicate, drop-of-length-le}
+use lib.Seq.{drop-cons, take-all, take-suc-set, drop-set-lt}
+use Rattle.line.specs.Bits.{num, bitOf, rowOf}
+use Rattle.line.specs.Memory.{stored}
+use Rattle.line.specs.Slave as line
+use Rattle.slave.specs.Code.{stateOf, placeOf, Shows, Steps}
+use Rattle.slave.specs.declared.Slave.{Slave}
+use Rattle.slave.specs.declared.Seen.{Seen}
+use Rattle.slave.specs.declared.Turn.{Turn}
+use Rattle.run.specs.Parts.{sentBy, leftBy, memoryBy, newBy, Passed}
+
+bool-num : (b : Bool) → boolByte b ≡ num b
+bool-num true = refl
+bool-num false = refl
+
+-- The step of the code is a step over the slave's own registers and rights.
+pub own-step : (registers rights : List ℕ) (s : Slave) (p : ℕ) (m b : Bool) (r : Turn) → p ≡ placeOf s
+    → Steps s (record { master = m; far = b; right = getD rights p 0; byte = getD registers p 0 }) r
+    → line.step (line.slave (memoryBy registers rights) (stateOf s)) m b
+    ≡ record { slave = line.slave (memoryBy (set registers p (r .byte)) rights) (stateOf (r .next)); sent = r .sent }
+unfolding stored
+own-step registers rights s p m b r here steps =
+    let seen : Seen = record { master = m; far = b; right = getD rights p 0; byte = getD registers p 0 } in
+    let shows : Shows (memoryBy registers rights) p seen = record { right-there = refl; byte-there = refl } in
+    rw here
+    (steps .over (memoryBy registers rights) (subst (λ (q : ℕ). Shows (memoryBy registers rights) q seen) here shows))
+
+-- A column: what is sent goes over to what was sent.
+module _ (s s′ : line.Slave) (b : Bool) (cdm cds : List ℕ) (i : ℕ) (small : i < length cdm) (room : i < length cds)
+    (stepped : line.step s (bitOf (getD cdm i 0)) (bitOf (getD cds i 0)) ≡ record { slave = s′; sent = b }) where
+  behind : drop (suc i) (set cds i (boolByte b)) ≡ drop (suc i) cds
+  behind = drop-set-lt (suc i) cds i (boolByte b) (omega arith)
+
+  pub sent-next : take i cds ++ map num (sentBy s (rowOf (drop i cdm)) (rowOf (drop i cds)))
+      ≡ take (i + 1) (set cds i (boolByte b))
+      ++ map num (sentBy s′ (rowOf (drop (i + 1) cdm)) (rowOf (drop (i + 1) (set cds i (boolByte b)))))
+  unfolding rowOf sentBy
+  sent-next =
+      rw (
+        drop-cons cdm i 0 small,
+        drop-cons cds i 0 room,
+        stepped,
+        add-one,
+        behind,
+        take-suc-set cds i (boolByte b) room,
+        append-assoc,
+        bool-num b,
+      )
+
+  pub left-next : leftBy s (rowOf (drop i cdm)) (rowOf (drop i cds))
+      ≡ leftBy s′ (rowOf (drop (i + 1) cdm)) (rowOf (drop (i + 1) (set cds i (boolByte b))))
+  unfolding rowOf leftBy
+  left-next =
+      rw (drop-cons cdm i 0 small, drop-cons cds i 0 room, add-one, behind)
+      (ap (λ (t : line.Step). leftBy (t .slave) (rowOf (drop (suc i) cdm)) (rowOf (drop (suc i) cds))) stepped)
+
+-- Past the last column.
+pub passed : (rights registers cdm cds registers′ cds′ : List ℕ) (s : Slave) (i : ℕ) → length cdm ≤ i → length cds′ ≤ i
+    → take i cds′ ++ map num (sentBy (line.slave (memoryBy registers′ rights) (stateOf s)) (rowOf (drop i cdm)) (rowOf (drop i cds′)))
+    ≡ map num (sentBy (newBy registers rights) (rowOf cdm) (rowOf cds))
+    → leftBy (line.slave (memoryBy registers′ rights) (stateOf s)) (rowOf (drop i cdm)) (rowOf (drop i cds′))
+    ≡ leftBy (newBy registers rights) (rowOf cdm) (rowOf cds)
+    → Passed rights registers cdm cds registers′ cds′
+unfolding rowOf sentBy leftBy
+passed rights registers cdm cds registers′ cds′ s i past full a e =
+    let ends : drop i cdm ≡ [] = drop-of-length-le cdm past in
+    record {
+      sent = sym (append-nil cds′) ∙ rw (ends, take-all i cds′ full) at a;
+      left = ap (λ (l : line.Slave). l .memory) (rw ends at e);
+    }
+
+-- One byte more is 0.
+pub cleared-next : (cds : List ℕ) (i : ℕ) → i < length cds → take i cds ≡ replicate i 0
+    → take (i + 1) (set cds i 0) ≡ replicate (i + 1) 0
+cleared-next cds i h e =
+    rw (add-one, take-suc-set cds i 0 h, e)
+    (replicate-append-replicate i 1 0 ∙ ap (λ (n : ℕ). replicate n 0) (add-one i))

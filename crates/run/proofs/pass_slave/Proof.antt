@@ -1,0 +1,123 @@
+-- `run::pass_slave` meets its contract. The loop's invariant: the bits sent so far and those that are left are all that the slave sends.
+-- Assumes nothing.
+use mathlib.Core.List.{map, _++_}
+use mathlib.Core.Path.{_≡_, refl, sym, _∙_}
+use Prim.Native.Nat.{_+_, _-_, _≤_, _<_}
+use native.Mathlib.Omega.{arith}
+use borrow.Author.Needs.{needs}
+use lib.ListN.{length, length-set, take, drop}
+use Rattle.line.specs.Bits.{num, rowOf}
+use Rattle.line.specs.Slave as line
+use Rattle.run.proofs.Slaves.{own-step, sent-next, left-next, passed}
+use Rattle.run.specs.Parts.{sentBy, leftBy, memoryBy, newBy}
+use Rattle.slave.specs.Code.{stateOf}
+use Rattle.run.proofs.pass_slave.Statement.{statement}
+use Rattle.run.proofs.pass_slave.Tie as tie
+
+abbrev Inv-loop : tie.InvT-loop
+Inv-loop rights registers₀ cdm cds₀ slave₀ i₀ registers cds slave i =
+    (i ≤ length cdm) × (length registers ≡ length registers₀) × (length cds ≡ length cds₀)
+    × (take i cds ++ map num (sentBy (line.slave (memoryBy registers rights) (stateOf slave)) (rowOf (drop i cdm)) (rowOf (drop i cds)))
+    ≡ map num (sentBy (newBy registers₀ rights) (rowOf cdm) (rowOf cds₀)))
+    × (leftBy (line.slave (memoryBy registers rights) (stateOf slave)) (rowOf (drop i cdm)) (rowOf (drop i cds))
+    ≡ leftBy (newBy registers₀ rights) (rowOf cdm) (rowOf cds₀))
+
+abbrev μ-loop : tie.MeasureT-loop
+μ-loop rights registers₀ cdm cds₀ slave₀ i₀ registers cds slave i = length cdm - i
+
+new-requires : tie.Need-new-requires Inv-loop μ-loop
+new-requires c κs = search needs
+
+loop-holds : tie.Need-loop-holds Inv-loop μ-loop
+loop-holds c = (search needs, refl, refl, rw (c .new .ensures), rw (c .new .ensures))
+
+place-requires : tie.Need-place-requires Inv-loop μ-loop
+place-requires c κs = search needs
+
+shared-slice-read-t14 : tie.Need-shared-slice-read-t14 Inv-loop μ-loop
+shared-slice-read-t14 c = search needs
+
+slice-read-t16 : tie.Need-slice-read-t16 Inv-loop μ-loop
+slice-read-t16 c = search needs
+
+shared-slice-read-t19 : tie.Need-shared-slice-read-t19 Inv-loop μ-loop
+shared-slice-read-t19 c = search needs
+
+slice-read-t21 : tie.Need-slice-read-t21 Inv-loop μ-loop
+slice-read-t21 c = search needs
+
+step-requires : tie.Need-step-requires Inv-loop μ-loop
+step-requires c κs = search needs
+
+slice-write-registers : tie.Need-slice-write-registers Inv-loop μ-loop
+slice-write-registers c = search needs
+
+cast-cds : tie.Need-cast-cds Inv-loop μ-loop
+cast-cds c = search needs
+
+slice-write-cds : tie.Need-slice-write-cds Inv-loop μ-loop
+slice-write-cds c = search needs
+
+add-i : tie.Need-add-i Inv-loop μ-loop
+add-i c =
+    let test = c .before .before .before .before .before .before .before .before in
+    let start = test .before .before .before .before .before .before .before in
+    omega (arith, test .loop-test .taken, start .good .1 .1 .0)
+
+loop-less : tie.Need-loop-less Inv-loop μ-loop
+loop-less c = search needs
+
+loop-again : tie.Need-loop-again Inv-loop μ-loop
+loop-again c =
+    let step = c .before .before .step in
+    let place = c .before .before .before .before .before .before .before .place in
+    let test = c .before .before .before .before .before .before .before .before in
+    let l = test .before .loop in
+    let start = test .before .before .before .before .before .before .before in
+    let room : l .i < length (l .cds) = omega (arith, l .inv .2, start .pre .2, test .loop-test .taken) in
+    let own =
+    own-step (l .registers) (start .args .rights .now) (l .slave) (place .result) _ _ (step .result)
+    (place .ensures .0) (step .ensures) in (
+      search needs,
+      rw length-set (l .inv .1),
+      rw length-set (l .inv .2),
+      sym (sent-next _ _ _ (start .args .cdm .now) (l .cds) (l .i) (test .loop-test .taken) room own) ∙ l .inv .3,
+      sym (left-next _ _ _ (start .args .cdm .now) (l .cds) (l .i) (test .loop-test .taken) room own) ∙ l .inv .4,
+    )
+
+same-length : tie.Need-same-length Inv-loop μ-loop
+same-length c = c .before .loop .inv .1
+
+same-length-2 : tie.Need-same-length-2 Inv-loop μ-loop
+same-length-2 c = c .before .loop .inv .2
+
+returns : tie.Need-returns Inv-loop μ-loop
+returns c =
+    let l = c .before .loop in
+    let start = c .before .before .before .before .before .before .before in
+    passed _ _ (start .args .cdm .now) _ _ _ (l .slave) (l .i) (c .loop-test .left)
+    (omega (arith, l .inv .2, start .pre .2, c .loop-test .left)) (l .inv .3) (l .inv .4)
+
+pub pass-slave-spec : {M : Type 1} → statement M
+pass-slave-spec =
+    tie.close
+    (tie.spec
+    Inv-loop
+    μ-loop
+    new-requires
+    loop-holds
+    place-requires
+    shared-slice-read-t14
+    slice-read-t16
+    shared-slice-read-t19
+    slice-read-t21
+    step-requires
+    slice-write-registers
+    cast-cds
+    slice-write-cds
+    add-i
+    loop-less
+    loop-again
+    same-length
+    same-length-2
+    returns)
