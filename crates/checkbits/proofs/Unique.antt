@@ -1,7 +1,9 @@
 -- Each promise of this crate has one answer: two results that meet it are equal. Assumes nothing.
 use mathlib.Core.Path.{_≡_}
+use mathlib.Core.Bool.{Bool}
 use Prim.Native.Nat.{ℕ}
-use Rattle.line.specs.Division.{headerBits, dataBits, check}
+use Rattle.line.specs.Bits.{push}
+use Rattle.line.specs.Division.{headerBits, dataBits, check, fits}
 use Rattle.line.proofs.Unique.{one-answer}
 
 header-check-unique : (word a b : ℕ) → a ≡ check headerBits word → b ≡ check headerBits word → a ≡ b
@@ -9,3 +11,12 @@ header-check-unique word a b p q = one-answer p q
 
 byte-check-unique : (value a b : ℕ) → a ≡ check dataBits value → b ≡ check dataBits value → a ≡ b
 byte-check-unique value a b p q = one-answer p q
+
+header-fits-unique : (word : ℕ) (a b : Bool) → a ≡ fits headerBits word → b ≡ fits headerBits word → a ≡ b
+header-fits-unique word a b p q = one-answer p q
+
+byte-fits-unique : (word : ℕ) (a b : Bool) → a ≡ fits dataBits word → b ≡ fits dataBits word → a ≡ b
+byte-fits-unique word a b p q = one-answer p q
+
+pushed-unique : (word : ℕ) (bit : Bool) (a b : ℕ) → a ≡ push word bit → b ≡ push word bit → a ≡ b
+pushed-unique word bit a b p q = one-answer p q

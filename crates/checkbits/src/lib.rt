@@ -1,9 +1,11 @@
-// The check bits of the control line: of a header's eleven bits, from a table, and of a data byte's eight.
+// The check bits of the control line: of a header's eleven bits, from a table, and of a data byte's eight; words as they are
+// collected, bit by bit, and whether their check is right.
 mod table;
 
 ghost use mathlib.Core.Path.{_≡_};
 ghost use Prim.Native.Nat.{_<_};
-ghost use Rattle.line.specs.Division.{headerBits, dataBits, check};
+ghost use Rattle.line.specs.Division.{headerBits, dataBits, check, fits};
+ghost use Rattle.line.specs.Bits.{push};
 use table::CHECKS;
 
 // The four check bits that follow the lowest eleven bits of `word`: CTS and the ten bits behind it.
@@ -18,6 +20,27 @@ pub fn byte_check(value: u8) -> u8
     ensures { λ r. ⌜ r ≡ check dataBits value ⌝ }
 {
     at(value as usize)
+}
+
+// Whether the last four bits of a header's fifteen are the check bits of the eleven before them.
+pub fn header_fits(word: u64) -> bool
+    ensures { λ r. ⌜ r ≡ fits headerBits word ⌝ }
+{
+    word % 16 == header_check((word / 16 % 2048) as u16) as u64
+}
+
+// Whether the last four bits of a byte's twelve are the check bits of the eight before them.
+pub fn byte_fits(word: u64) -> bool
+    ensures { λ r. ⌜ r ≡ fits dataBits word ⌝ }
+{
+    word % 16 == byte_check((word / 16 % 256) as u8) as u64
+}
+
+// A word with one bit more, the newest lowest; the last sixteen are kept.
+pub fn pushed(word: u64, bit: bool) -> u64
+    ensures { λ r. ⌜ (r ≡ push word bit) × (r < 65536) ⌝ }
+{
+    word % 32768 * 2 + bit as u64
 }
 
 fn at(word: usize) -> u8

@@ -107,6 +107,10 @@ in-stepped c m x (still s) = tt
 in-stepped c m x ends = refl
 in-stepped c m x (meant z p) = in-look c p m x
 
+pub in-step : (c : ℕ) (s : Timed Phase) (m x : Bool) → IfAny (λ e. e .column ≡ c) (step c s m x .says)
+unfolding step
+in-step c s m x = in-stepped c m x (judge begun s m)
+
 -- The entries of columns i to j - 1.
 abbrev Within : (i j : ℕ) → Entry → Type 0
 Within i j e = (i ≤ e .column) × (e .column < j)
@@ -116,7 +120,7 @@ unfolding entries step
 within s c [] i j h k = tt
 within s c (col m x ∷ cs) i j h k =
     every-note (Within i j) (step c s m x .says) (entries (step c s m x .state) (suc c) cs)
-    (placed (step c s m x .says) (in-stepped c m x (judge begun s m)))
+    (placed (step c s m x .says) (in-step c s m x))
     (within (step c s m x .state) (suc c) cs i j (omega arith) (omega arith))
   where
     placed : (o : Option Entry) → IfAny (λ e. e .column ≡ c) o → IfAny (Within i j) o

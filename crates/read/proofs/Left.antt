@@ -15,7 +15,8 @@ use Rattle.reader.specs.Code.{stateOf, Moved, entryOf, moved, after, Steps}
 use Rattle.reader.specs.declared.Stepped.{Stepped}
 use Rattle.read.specs.Read.{listOf}
 use Rattle.read.specs.Parts.{sixOf}
-use Rattle.read.proofs.Placed.{step-at, silent, given}
+use Rattle.line.proofs.Late.{in-step}
+use Rattle.read.proofs.Placed.{silent, given}
 
 -- The entries from column k on, to a reader in state s.
 unfoldable pub left : Timed Phase → (k : ℕ) → (cdm cds : List ℕ) → List Entry
@@ -98,7 +99,7 @@ module _ (cdm cds : List ℕ) (k : ℕ) (s : Timed Phase) (r : Stepped) (h : k <
 
   pub turn-some : (r .entry .kind ≡ 0 → ⊥) → Turn
   turn-some n =
-      let g = given k says (step-at k s (bitOf (getD cdm k 0)) (bitOf (getD cds k 0))) (rw (← entry-said) n) in
+      let g = given k says (in-step k s (bitOf (getD cdm k 0)) (bitOf (getD cds k 0))) (rw (← entry-said) n) in
       record {
         entry = g .entry;
         listed = left-more ∙ ap (λ (o : Option Entry). note o (left (stateOf (r .next)) (k + 1) cdm cds)) (g .says);

@@ -2,7 +2,6 @@
 ghost use mathlib.Core.Path.{_≡_};
 ghost use mathlib.Core.Bool.{_&&_, Bool·beq};
 ghost use Rattle.line.specs.Bits.{bitOf};
-ghost use Rattle.line.specs.Division.{dataBits, fits};
 ghost use Rattle.reader.specs.Code.{phaseBy, shown, Meets};
 use crate::Body;
 use crate::Kind;
@@ -14,7 +13,6 @@ use crate::made::ID_COUNT;
 use crate::made::REGISTER_COUNT;
 use crate::made::gives;
 use crate::made::go;
-use crate::made::pushed;
 
 // Byte: "eight data bits, four check bits", the first of which eleven follow.
 const TOP_BIT: u64 = 11;
@@ -52,14 +50,14 @@ pub fn byte_s(zeros: u64, body: Body, m: bool, x: bool) -> Stepped
 pub fn reads(zeros: u64, body: Body, m: bool, x: bool) -> Stepped
     ensures { λ r. ⌜ Meets r (shown zeros (phaseBy Kind.Reads body) m x) ⌝ }
 {
-    let word = pushed(body.word, x);
+    let word = checkbits::pushed(body.word, x);
     let value = word / CHECK % DATA;
     let id = body.id % ID_COUNT;
     let address = body.address % REGISTER_COUNT;
     let mut n = body;
     if body.place == 0 {
         n.asked = 0;
-        if byte_fits(word) {
+        if checkbits::byte_fits(word) {
             gives(Kind::AskP, zeros, n, kinds::READ, id, address, value)
         } else {
             gives(Kind::AskP, zeros, n, kinds::READBAD, id, address, value)
@@ -75,7 +73,7 @@ pub fn reads(zeros: u64, body: Body, m: bool, x: bool) -> Stepped
 pub fn writes(zeros: u64, body: Body, m: bool, x: bool) -> Stepped
     ensures { λ r. ⌜ Meets r (shown zeros (phaseBy Kind.Writes body) m x) ⌝ }
 {
-    let word = pushed(body.word, m);
+    let word = checkbits::pushed(body.word, m);
     let value = word / CHECK % DATA;
     let same = echoed(body.answered, m, x);
     let id = body.id % ID_COUNT;
@@ -83,7 +81,7 @@ pub fn writes(zeros: u64, body: Body, m: bool, x: bool) -> Stepped
     let mut n = body;
     if body.place == 0 {
         n.asked = 1;
-        if byte_fits(word) {
+        if checkbits::byte_fits(word) {
             if same == 1 {
                 gives(Kind::AskP, zeros, n, kinds::WRITTEN, id, address, value)
             } else {
@@ -127,10 +125,4 @@ fn echoed(before: u64, m: bool, x: bool) -> u64
     ensures { λ r. ⌜ bitOf r ≡ bitOf before && Bool·beq x m ⌝ }
 {
     if x == m { before } else { 0 }
-}
-
-fn byte_fits(word: u64) -> bool
-    ensures { λ r. ⌜ r ≡ fits dataBits word ⌝ }
-{
-    word % CHECK == checkbits::byte_check((word / CHECK % DATA) as u8) as u64
 }

@@ -1,7 +1,6 @@
 // The fifteen columns after S: the locks answered in the first nine, and the header that the last one completes.
 ghost use mathlib.Core.Path.{_≡_};
 ghost use Prim.Native.Nat.{_<_};
-ghost use Rattle.line.specs.Division.{headerBits, fits};
 ghost use Rattle.reader.specs.Code.{phaseBy, shown, Meets};
 use crate::Body;
 use crate::Kind;
@@ -13,7 +12,6 @@ use crate::made::LOCK_BOUND;
 use crate::made::REGISTER_COUNT;
 use crate::made::gives;
 use crate::made::go;
-use crate::made::pushed;
 
 // Locks: the last of "columns 1 to 9 after S answer IDL0 to IDL8".
 const LAST_LOCK: u64 = 8;
@@ -28,7 +26,7 @@ const COMMANDS: u64 = 4;
 pub fn ones(zeros: u64, body: Body, m: bool, x: bool) -> Stepped
     ensures { λ r. ⌜ Meets r (shown zeros (phaseBy Kind.Ones body) m x) ⌝ }
 {
-    let word = pushed(body.word, m);
+    let word = checkbits::pushed(body.word, m);
     let mut n = body;
     n.word = word;
     if body.place < LAST_LOCK {
@@ -55,7 +53,7 @@ pub fn ones(zeros: u64, body: Body, m: bool, x: bool) -> Stepped
 pub fn upto(zeros: u64, body: Body, m: bool, x: bool) -> Stepped
     ensures { λ r. ⌜ Meets r (shown zeros (phaseBy Kind.Upto body) m x) ⌝ }
 {
-    let word = pushed(body.word, m);
+    let word = checkbits::pushed(body.word, m);
     let lock = body.count % LOCK_BOUND;
     let mut n = body;
     n.word = word;
@@ -81,7 +79,7 @@ pub fn mixed(zeros: u64, body: Body, m: bool, x: bool) -> Stepped
     ensures { λ r. ⌜ Meets r (shown zeros (phaseBy Kind.Mixed body) m x) ⌝ }
 {
     if body.place < LAST_LOCK {
-        let word = pushed(body.word, m);
+        let word = checkbits::pushed(body.word, m);
         let mut n = body;
         n.word = word;
         n.place = body.place + 1;
@@ -95,13 +93,13 @@ pub fn mixed(zeros: u64, body: Body, m: bool, x: bool) -> Stepped
 pub fn head(zeros: u64, body: Body, m: bool, x: bool) -> Stepped
     ensures { λ r. ⌜ Meets r (shown zeros (phaseBy Kind.Head body) m x) ⌝ }
 {
-    let word = pushed(body.word, m);
+    let word = checkbits::pushed(body.word, m);
     let mut n = body;
     if body.place < LAST_HEADER {
         n.word = word;
         n.place = body.place + 1;
         go(Kind::Head, zeros, n)
-    } else if header_fits(word) {
+    } else if checkbits::header_fits(word) {
         let v = word / CHECK;
         if v / CTS % 2 == 1 {
             n.id = v / REGISTER_COUNT % ID_COUNT;
@@ -114,11 +112,4 @@ pub fn head(zeros: u64, body: Body, m: bool, x: bool) -> Stepped
     } else {
         gives(Kind::Deaf, zeros, n, kinds::BADHEAD, 0, 0, 0)
     }
-}
-
-fn header_fits(word: u64) -> bool
-    requires { ⌜ word < 65536 ⌝ }
-    ensures { λ r. ⌜ r ≡ fits headerBits word ⌝ }
-{
-    word % CHECK == checkbits::header_check((word / CHECK) as u16) as u64
 }

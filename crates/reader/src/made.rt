@@ -2,7 +2,7 @@
 ghost use mathlib.Core.Path.{_≡_};
 ghost use mathlib.Core.Bool.{true};
 ghost use Prim.Native.Nat.{_<_};
-ghost use Rattle.line.specs.Bits.{num, push};
+ghost use Rattle.line.specs.Bits.{num};
 ghost use Rattle.reader.specs.Code.{alive, phaseBy, nothing, said, seenBy, told, rested, small, Meets};
 use crate::Body;
 use crate::Entry;
@@ -86,11 +86,4 @@ pub fn number(bit: bool) -> u64
     ensures { λ r. ⌜ (r ≡ num bit) × (r < 2) ⌝ }
 {
     bit as u64
-}
-
-// The word with one bit more; it keeps the last sixteen.
-pub fn pushed(word: u64, bit: bool) -> u64
-    ensures { λ r. ⌜ (r ≡ push word bit) × (r < 65536) ⌝ }
-{
-    word % 32768 * 2 + number(bit)
 }

@@ -5,9 +5,9 @@ ghost use mathlib.Core.Option.{some, none};
 ghost use Prim.Native.Nat.{_<_};
 ghost use lib.Dec.{ltb};
 ghost use Rattle.line.specs.Limits.{restZeros, registerCount};
-ghost use Rattle.line.specs.Bits.{num, bit, push};
+ghost use Rattle.line.specs.Bits.{num, bit};
 ghost use Rattle.line.specs.Rest.{powerOn, timer};
-ghost use Rattle.line.specs.Division.{headerBits, dataBits, word, fits};
+ghost use Rattle.line.specs.Division.{dataBits, word};
 ghost use Rattle.slave.specs.Code.{stateOf, placeOf, turned, nextColumn, nextAddress, lockOf, Meets, Steps, lockedAs, CalledAs, goesOn};
 
 // Rest: "Fourteen CDM zeros in a row end anything, at any place."
@@ -214,7 +214,7 @@ fn locks(zeros: u64, body: Body, seen: Seen) -> Turn
 {
     let lock = locked(body.column, body.number, seen.far);
     let mut n = body;
-    n.word = pushed(body.word, seen.master);
+    n.word = checkbits::pushed(body.word, seen.master);
     n.number = lock.number;
     if body.column < LOCK_LAST {
         n.column = body.column + 1;
@@ -272,7 +272,7 @@ fn locked(column: u64, number: u64, far: bool) -> Lock
 fn head(zeros: u64, body: Body, seen: Seen) -> Turn
     ensures { λ r. ⌜ Meets Kind.Head zeros body seen r ⌝ }
 {
-    let word = pushed(body.word, seen.master);
+    let word = checkbits::pushed(body.word, seen.master);
     let mut n = body;
     n.word = word;
     if body.column < HEADER {
@@ -290,7 +290,7 @@ fn head(zeros: u64, body: Body, seen: Seen) -> Turn
 fn called(word: u64, number: u64) -> bool
     ensures { λ r. ⌜ CalledAs word number r ⌝ }
 {
-    if header_fits(word) {
+    if checkbits::header_fits(word) {
         if word / CHECKS / CTS % 2 == 1 {
             number == word / CHECKS / ID % IDS
         } else {
@@ -368,7 +368,7 @@ fn takes(zeros: u64, body: Body, seen: Seen) -> Turn
     ensures { λ r. ⌜ Meets Kind.Takes zeros body seen r ⌝ }
 {
     let left = body.left % COUNTS;
-    let word = pushed(body.word, seen.master);
+    let word = checkbits::pushed(body.word, seen.master);
     let mut n = body;
     if 0 < left {
         n.left = left - 1;
@@ -377,7 +377,7 @@ fn takes(zeros: u64, body: Body, seen: Seen) -> Turn
     } else {
         n.write = true;
         n.address = next_address(body.address);
-        if byte_fits(word) {
+        if checkbits::byte_fits(word) {
             n.good = true;
             said(
                 Kind::AskP,
@@ -439,27 +439,6 @@ fn allowed(right: u8, write: bool) -> bool
     } else {
         right % 2 == 1
     }
-}
-
-// One bit more, the newest lowest, and the last sixteen kept.
-fn pushed(word: u64, master: bool) -> u64
-    ensures { λ r. ⌜ r ≡ push word master ⌝ }
-{
-    word % KEPT * 2 + master as u64
-}
-
-// Whether the last four bits of a header's fifteen are the check bits of the eleven before them.
-fn header_fits(word: u64) -> bool
-    ensures { λ r. ⌜ r ≡ fits headerBits word ⌝ }
-{
-    word % CHECKS == checkbits::header_check((word / CHECKS % 2048) as u16) as u64
-}
-
-// Whether the last four bits of a byte's twelve are the check bits of the eight before them.
-fn byte_fits(word: u64) -> bool
-    ensures { λ r. ⌜ r ≡ fits dataBits word ⌝ }
-{
-    word % CHECKS == checkbits::byte_check((word / CHECKS % 256) as u8) as u64
 }
 
 // A byte with its check bits behind it.

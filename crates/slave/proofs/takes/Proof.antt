@@ -35,7 +35,7 @@ returns c =
     let p = c .before .before in
     let a = p .before .before .args in
     spoke (c .said .ensures) refl refl
-    (λ k s. takes-on k (a .body .address) _ _ _ _ (a .body .left) (c .before .if1 .taken) (p .pushed .ensures))
+    (λ k s. takes-on k (a .body .address) _ _ _ _ (a .body .left) (c .before .if1 .taken) (p .pushed .ensures .0))
 
 returns-2 : tie.Need-returns-2
 returns-2 c =
@@ -46,7 +46,7 @@ returns-2 c =
     stores (c .said2 .ensures) refl refl
     (λ k.
     takes-good k (a .body .address) _ _ _ _ (a .body .left)
-    (n .before .if1 .left) (p .pushed .ensures) (n .next-address .ensures) (f .ensures) (c .before .if2 .taken))
+    (n .before .if1 .left) (p .pushed .ensures .0) (n .next-address .ensures) (f .ensures) (c .before .if2 .taken))
 
 returns-3 : tie.Need-returns-3
 returns-3 c =
@@ -57,7 +57,7 @@ returns-3 c =
     spoke (c .said3 .ensures) refl refl
     (λ k s.
     takes-bad k (a .body .address) _ _ _ _ (a .body .left)
-    (n .before .if1 .left) (p .pushed .ensures) (n .next-address .ensures) (f .ensures) (c .before .if2 .left))
+    (n .before .if1 .left) (p .pushed .ensures .0) (n .next-address .ensures) (f .ensures) (c .before .if2 .left))
 
 pub takes-spec : {M : Type 1} → statement M
 takes-spec =

@@ -1,8 +1,9 @@
--- `reader::header::header_fits` meets its contract: the check is looked up. Assumes nothing.
+-- `checkbits::header_fits` meets its contract: the check of eleven bits looks at eleven bits alone. Assumes nothing.
 use borrow.Author.Needs.{needs}
-use Rattle.line.specs.Division.{fits}
-use Rattle.reader.proofs.header.header_fits.Statement.{statement}
-use Rattle.reader.proofs.header.header_fits.Tie as tie
+use Rattle.line.proofs.Division.{check-low}
+use Rattle.line.specs.Division.{headerBits, fits}
+use Rattle.checkbits.proofs.header_fits.Statement.{statement}
+use Rattle.checkbits.proofs.header_fits.Tie as tie
 
 cast-header-check : tie.Need-cast-header-check
 cast-header-check c = search needs
@@ -15,7 +16,7 @@ cast-result c = search needs
 
 returns : tie.Need-returns
 unfolding fits
-returns c = rw (c .header-check .ensures)
+returns c = rw (c .header-check .ensures, check-low headerBits)
 
 pub header-fits-spec : {M : Type 1} → statement M
 header-fits-spec = tie.close (tie.spec cast-header-check header-check-requires cast-result returns)

@@ -1,9 +1,9 @@
--- `slave::byte_fits` meets its contract: the check of eight bits looks at eight bits alone. Assumes nothing.
+-- `checkbits::byte_fits` meets its contract: the check of eight bits looks at eight bits alone. Assumes nothing.
 use borrow.Author.Needs.{needs}
 use Rattle.line.proofs.Division.{check-low}
 use Rattle.line.specs.Division.{dataBits, fits}
-use Rattle.slave.proofs.byte_fits.Statement.{statement}
-use Rattle.slave.proofs.byte_fits.Tie as tie
+use Rattle.checkbits.proofs.byte_fits.Statement.{statement}
+use Rattle.checkbits.proofs.byte_fits.Tie as tie
 
 cast-byte-check : tie.Need-cast-byte-check
 cast-byte-check c = search needs
