@@ -54,7 +54,16 @@ laid-more : (bs vs out : List ℕ) (at : ℕ) → length bs ≡ at → at + leng
 laid-more bs vs out at e h =
     let fits : at + length vs ≤ length (bs ++ drop (length bs) out) =
     omega (arith, length-append bs (drop (length bs) out), length-drop (length bs) out) in
-    rw (sets-eq vs (bs ++ drop (length bs) out) at fits, take-at bs (drop (length bs) out) at e, ← e, drop-append-add bs (drop (length bs) out) (length vs), drop-drop (length vs) (length bs) out, length-append, append-assoc)
+    let rest : List ℕ = drop (length bs) out in
+    rw (
+      sets-eq vs (bs ++ rest) at fits,
+      take-at bs rest at e,
+      ← e,
+      drop-append-add bs rest (length vs),
+      drop-drop (length vs) (length bs) out,
+      length-append,
+      append-assoc,
+    )
 
 -- The entry at n of a list, what is behind it and what is up to it.
 module _ (all : List Entry) (n : ℕ) (e : Entry) (rest : List Entry) (cut : drop n all ≡ e ∷ rest) where

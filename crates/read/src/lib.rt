@@ -15,6 +15,8 @@ use reader::Reader;
 
 // Columns: "A row has 0 to 4,096 columns."
 const COLUMN_LIMIT: usize = 4096;
+// Entries: "Six bytes".
+const ENTRY_BYTES: usize = 6;
 
 pub fn read(cdm: &[u8], cds: &[u8], opening: usize, out: &mut [u8]) -> Outcome
     ensures { λ r. ⌜ Listed (now (cdm .entry)) (now (cds .entry)) opening (now (out .entry)) r (now (out .exit)) ⌝ }
@@ -60,7 +62,7 @@ fn has_room(cdm: &[u8], cds: &[u8], opening: usize, out: &mut [u8]) -> bool
     requires { ⌜ Rows (now cdm) (now cds) opening ⌝ }
     ensures { λ r. ⌜ (r ≡ leb (length (listOf opening (now (cdm .entry)) (now (cds .entry)))) (length (now (out .entry)) / 6)) × (now (out .exit) ≡ now (out .entry)) ⌝ }
 {
-    let room = out.len() / 6;
+    let room = out.len() / ENTRY_BYTES;
     if room < cdm.len() - opening {
         let n = count(cdm, cds, opening, out);
         n <= room
@@ -103,8 +105,8 @@ fn keep(out: &mut [u8], n: usize, k: usize, e: Entry) -> usize
     ensures { λ r. ⌜ (r ≡ n + 1) × (now (out .exit) ≡ kept (now (out .entry)) n (sixOf k e)) ⌝ }
 {
     let next = n + 1;
-    if n < out.len() / 6 {
-        put(out, 6 * n, k, e);
+    if n < out.len() / ENTRY_BYTES {
+        put(out, ENTRY_BYTES * n, k, e);
     }
     next
 }

@@ -19,9 +19,9 @@ module _ (z : ℕ) (m : Bool) where
   unfolding timer
   a-one e = rw e
 
-  pub a-zero : m ≡ false → z < restZeros - 1 → Counted z m (z + 1)
+  pub a-zero : m ≡ false → Counted z m (z + 1)
   unfolding timer
-  a-zero e h = rw e
+  a-zero e = rw e
 
   pub a-fourteenth : m ≡ false → restZeros - 1 ≤ z → Counted z m restZeros
   unfolding timer

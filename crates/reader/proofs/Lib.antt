@@ -2,3 +2,4 @@ pub mod Shown
 pub mod LawsHeader
 pub mod LawsAccess
 pub mod LawsStep
+mod Unique

@@ -1,0 +1,16 @@
+-- Each promise of this crate has one answer to line's definitions: two results that meet it are the same state, and give the same
+-- entry. What a field holds in a kind that does not use it is left open, and no job shows it. Assumes nothing.
+use mathlib.Core.Path.{_≡_}
+use mathlib.Core.Bool.{Bool}
+use Rattle.line.specs.Rest.{Timed, powerOn}
+use Rattle.line.specs.Reader.{Phase}
+use Rattle.line.proofs.Unique.{one-answer}
+use Rattle.reader.specs.Code.{stateOf, after, Steps}
+use Rattle.reader.specs.declared.Reader.{Reader}
+use Rattle.reader.specs.declared.Stepped.{Stepped}
+
+new-unique : (a b : Reader) → stateOf a ≡ powerOn → stateOf b ≡ powerOn → stateOf a ≡ stateOf b
+new-unique a b p q = one-answer p q
+
+step-unique : {a b : Stepped} (s : Timed Phase) (m x : Bool) → Steps s m x a → Steps s m x b → after a ≡ after b
+step-unique s m x p q = one-answer (p .meets 0) (q .meets 0)
