@@ -25,12 +25,12 @@ digit-bit : (b : ℕ) → b < 2 → digit b % 2 ≡ b
 digit-bit b h = omega arith
 
 -- The column lines of two rows have no bad line, and give the rows back.
-pub lines-good : (line : ℕ) (ms ss : List ℕ) → Bits ms → Bits ss → firstBad line (columnLines ms ss) ≡ 0
+pub lines-good : (before : ℕ) (ms ss : List ℕ) → Bits ms → Bits ss → firstBad before (columnLines ms ss) ≡ 0
 unfolding firstBad columnLines fault begins
-lines-good line [] ss p q = refl
-lines-good line (m ∷ ms) [] p q = refl
-lines-good line (m ∷ ms) (s ∷ ss) p q =
-    rw (bit-has m (p .0), bit-has s (q .0)) (lines-good (line + 1) ms ss (p .1) (q .1))
+lines-good before [] ss p q = refl
+lines-good before (m ∷ ms) [] p q = refl
+lines-good before (m ∷ ms) (s ∷ ss) p q =
+    rw (bit-has m (p .0), bit-has s (q .0)) (lines-good (before + 1) ms ss (p .1) (q .1))
 
 pub lines-back : (ms ss : List ℕ) → length ms ≡ length ss → Bits ms → Bits ss
     → (rowIn 0 (columnLines ms ss) ≡ ms) × (rowIn 2 (columnLines ms ss) ≡ ss)
@@ -52,7 +52,7 @@ pub there-and-back : (cdm cds : List ℕ) → length cdm ≡ length cds → Bits
 unfolding badLine rowsText cdmOf cdsOf fault begins
 there-and-back cdm cds e p q =
     record {
-      good = lines-good 2 cdm cds p q;
+      good = lines-good 1 cdm cds p q;
       cdm-back = lines-back cdm cds e p q .0;
       cds-back = lines-back cdm cds e p q .1;
     }
@@ -91,9 +91,9 @@ begins-column a b c d h =
     cc
 
 -- Nothing is told of a line exactly where it has its form; of two faults none where there is neither.
-no-fault : (form : List Form) (line : ℕ) (text : List ℕ) → 0 < line → fault form line text ≡ 0 → begins form text ≡ true
+no-fault : (form : List Form) (before : ℕ) (text : List ℕ) → fault form before text ≡ 0 → begins form text ≡ true
 unfolding fault
-no-fault form line text h e = tested (begins form text) (λ q. q) (λ q. absurd (let z = rw q at e in omega arith))
+no-fault form before text e = tested (begins form text) (λ q. q) (λ q. absurd (let z = rw q at e in omega arith))
 
 neither : (fault rest : ℕ) → orElse fault rest ≡ 0 → (fault ≡ 0) × (rest ≡ 0)
 neither zero rest e = (refl, e)
@@ -110,40 +110,40 @@ begins-long [] text h = omega arith
 begins-long (f ∷ form) [] h = absurd (false≢true h)
 begins-long (f ∷ form) (b ∷ text) h = omega (arith, begins-long form text (both (has f b) (begins form text) h .1))
 
-cut-short : (line : ℕ) (text : List ℕ) → 0 < line → fault columnForm line text ≡ 0 → length text < 4 → ⊥
-cut-short line text h e k = omega (arith, begins-long columnForm text (no-fault columnForm line text h e))
+cut-short : (before : ℕ) (text : List ℕ) → fault columnForm before text ≡ 0 → length text < 4 → ⊥
+cut-short before text e k = omega (arith, begins-long columnForm text (no-fault columnForm before text e))
 
 -- Column lines without a bad line are those of their bits.
-pub good-lines : (line : ℕ) (text : List ℕ) → 0 < line → firstBad line text ≡ 0 → text ≡ columnLines (rowIn 0 text) (rowIn 2 text)
+pub good-lines : (before : ℕ) (text : List ℕ) → firstBad before text ≡ 0 → text ≡ columnLines (rowIn 0 text) (rowIn 2 text)
 unfolding firstBad columnLines rowIn
-good-lines line [] h e = refl
-good-lines line (a ∷ []) h e = absurd (cut-short line (a ∷ []) h e (omega arith))
-good-lines line (a ∷ b ∷ []) h e = absurd (cut-short line (a ∷ b ∷ []) h e (omega arith))
-good-lines line (a ∷ b ∷ c ∷ []) h e = absurd (cut-short line (a ∷ b ∷ c ∷ []) h e (omega arith))
-good-lines line (a ∷ b ∷ c ∷ d ∷ text) h e =
-    let parts = neither (fault columnForm line (a ∷ b ∷ c ∷ d ∷ [])) (firstBad (line + 1) text) e in
-    let first = begins-column a b c d (no-fault columnForm line _ h (parts .0)) in
-    let rest : text ≡ columnLines (rowIn 0 text) (rowIn 2 text) = good-lines (line + 1) text (omega arith) (parts .1) in
+good-lines before [] e = refl
+good-lines before (a ∷ []) e = absurd (cut-short before (a ∷ []) e (omega arith))
+good-lines before (a ∷ b ∷ []) e = absurd (cut-short before (a ∷ b ∷ []) e (omega arith))
+good-lines before (a ∷ b ∷ c ∷ []) e = absurd (cut-short before (a ∷ b ∷ c ∷ []) e (omega arith))
+good-lines before (a ∷ b ∷ c ∷ d ∷ text) e =
+    let parts = neither (fault columnForm before (a ∷ b ∷ c ∷ d ∷ [])) (firstBad (before + 1) text) e in
+    let first = begins-column a b c d (no-fault columnForm before _ (parts .0)) in
+    let rest : text ≡ columnLines (rowIn 0 text) (rowIn 2 text) = good-lines (before + 1) text (parts .1) in
     cc
 
 -- A text without a bad line is exactly the text of its rows.
 pub back-and-there : (text : List ℕ) → badLine text ≡ 0 → text ≡ rowsText (cdmOf text) (cdsOf text)
 unfolding badLine rowsText cdmOf cdsOf
 back-and-there text e =
-    let parts = neither (fault headerForm 1 text) _ e in
-    begins-exactly rowsHeader text (no-fault headerForm 1 text (omega arith) (parts .0))
-    ∙ ap (λ (l : List ℕ). rowsHeader ++ l) (good-lines 2 _ (omega arith) (parts .1))
+    let parts = neither (fault headerForm 0 text) _ e in
+    begins-exactly rowsHeader text (no-fault headerForm 0 text (parts .0))
+    ∙ ap (λ (l : List ℕ). rowsHeader ++ l) (good-lines 1 _ (parts .1))
 
 -- A text in pieces: of a piece of whole lines and what comes behind it, the first bad line is that of the piece, else that of the rest.
-pub in-pieces : (n line : ℕ) (piece rest : List ℕ) → length piece ≡ 4 * n
-    → firstBad line (piece ++ rest) ≡ orElse (firstBad line piece) (firstBad (line + n) rest)
+pub in-pieces : (n before : ℕ) (piece rest : List ℕ) → length piece ≡ 4 * n
+    → firstBad before (piece ++ rest) ≡ orElse (firstBad before piece) (firstBad (before + n) rest)
 unfolding firstBad
-in-pieces zero line [] rest e = rw add-zero
-in-pieces zero line (a ∷ piece) rest e = absurd (omega arith)
-in-pieces (suc n) line [] rest e = absurd (omega arith)
-in-pieces (suc n) line (a ∷ []) rest e = absurd (omega arith)
-in-pieces (suc n) line (a ∷ b ∷ []) rest e = absurd (omega arith)
-in-pieces (suc n) line (a ∷ b ∷ c ∷ []) rest e = absurd (omega arith)
-in-pieces (suc n) line (a ∷ b ∷ c ∷ d ∷ piece) rest e =
-    let on : line + 1 + n ≡ line + suc n = omega arith in
-    rw (in-pieces n (line + 1) piece rest (omega arith), on, or-else-assoc (fault columnForm line (a ∷ b ∷ c ∷ d ∷ [])))
+in-pieces zero before [] rest e = rw add-zero
+in-pieces zero before (a ∷ piece) rest e = absurd (omega arith)
+in-pieces (suc n) before [] rest e = absurd (omega arith)
+in-pieces (suc n) before (a ∷ []) rest e = absurd (omega arith)
+in-pieces (suc n) before (a ∷ b ∷ []) rest e = absurd (omega arith)
+in-pieces (suc n) before (a ∷ b ∷ c ∷ []) rest e = absurd (omega arith)
+in-pieces (suc n) before (a ∷ b ∷ c ∷ d ∷ piece) rest e =
+    let on : before + 1 + n ≡ before + suc n = omega arith in
+    rw (in-pieces n (before + 1) piece rest (omega arith), on, or-else-assoc (fault columnForm before (a ∷ b ∷ c ∷ d ∷ [])))

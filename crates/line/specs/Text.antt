@@ -60,26 +60,28 @@ begins (f ∷ fs) [] = false
 begins (f ∷ fs) (b ∷ bs) = has f b && begins fs bs
 
 -- Refusal 11: "text not of the form above; the first bad line". What is told of the line that a text begins with: 0 where it has its
--- form, else its number. Whatever else is to be told of a bad line is told here; the walk below only hands it on.
-unfoldable pub fault : List Form → (line : ℕ) → (text : List ℕ) → ℕ
-fault form line text = cond (begins form text) 0 line
+-- form, else its number, with so many lines before it. Whatever else is to be told of a bad line is told here; the walk below only
+-- hands it on.
+unfoldable pub fault : List Form → (before : ℕ) → (text : List ℕ) → ℕ
+fault form before text = cond (begins form text) 0 (suc before)
 
 -- The first fault, of a line or of what comes behind it.
 abbrev pub orElse : (fault rest : ℕ) → ℕ
 orElse zero rest = rest
 orElse (suc n) rest = suc n
 
--- .. of a text's column lines, the first of them the given line of the text. Nothing left is no line; a line cut short is one.
-unfoldable pub firstBad : (line : ℕ) → (text : List ℕ) → ℕ
-firstBad line [] = 0
-firstBad line (a ∷ []) = fault columnForm line (a ∷ [])
-firstBad line (a ∷ b ∷ []) = fault columnForm line (a ∷ b ∷ [])
-firstBad line (a ∷ b ∷ c ∷ []) = fault columnForm line (a ∷ b ∷ c ∷ [])
-firstBad line (a ∷ b ∷ c ∷ d ∷ text) = orElse (fault columnForm line (a ∷ b ∷ c ∷ d ∷ [])) (firstBad (line + 1) text)
+-- .. of column lines with so many lines before them. Nothing left is no line; a line cut short is one.
+unfoldable pub firstBad : (before : ℕ) → (text : List ℕ) → ℕ
+firstBad before [] = 0
+firstBad before (a ∷ []) = fault columnForm before (a ∷ [])
+firstBad before (a ∷ b ∷ []) = fault columnForm before (a ∷ b ∷ [])
+firstBad before (a ∷ b ∷ c ∷ []) = fault columnForm before (a ∷ b ∷ c ∷ [])
+firstBad before (a ∷ b ∷ c ∷ d ∷ text) =
+    orElse (fault columnForm before (a ∷ b ∷ c ∷ d ∷ [])) (firstBad (before + 1) text)
 
 -- Numbers of refusal: "11 also a line, counted from 1": the header is line 1, also of an empty text; 0 where no line is bad.
 unfoldable pub badLine : (text : List ℕ) → ℕ
-badLine text = orElse (fault headerForm 1 text) (firstBad 2 (drop (length rowsHeader) text))
+badLine text = orElse (fault headerForm 0 text) (firstBad 1 (drop (length rowsHeader) text))
 
 -- The digits at a place of each column line, as bits: the row of that place.
 unfoldable pub rowIn : (place : ℕ) → (text : List ℕ) → List ℕ
