@@ -39,7 +39,7 @@ too-short line text at h =
     (λ q. q)
 
 -- Its first four bytes, and what a text of fewer is.
-four : (text : List ℕ) (i : ℕ) → 4 ≤ length text - i
+pub four : (text : List ℕ) (i : ℕ) → 4 ≤ length text - i
     → drop i text ≡ getD text i 0 ∷ getD text (i + 1) 0 ∷ getD text (i + 2) 0 ∷ getD text (i + 3) 0 ∷ drop (i + 4) text
 four text i h =
     let one : suc i ≡ i + 1 = omega arith in

@@ -58,7 +58,7 @@ there-and-back cdm cds e p q =
     }
 
 -- What a line of its form is: the header itself, and a column's line of its digits' bits.
-both : (a b : Bool) → a && b ≡ true → (a ≡ true) × (b ≡ true)
+pub both : (a b : Bool) → a && b ≡ true → (a ≡ true) × (b ≡ true)
 both true b h = (refl, h)
 both false b h = absurd (false≢true h)
 
@@ -133,6 +133,12 @@ back-and-there text e =
     let parts = neither (fault headerForm 0 text) _ e in
     begins-exactly rowsHeader text (no-fault headerForm 0 text (parts .0))
     ∙ ap (λ (l : List ℕ). rowsHeader ++ l) (good-lines 1 _ (parts .1))
+
+-- .. and has its header.
+pub good-long : (text : List ℕ) → badLine text ≡ 0 → length rowsHeader ≤ length text
+unfolding badLine
+good-long text e =
+    begins-long headerForm text (no-fault headerForm 0 text (neither (fault headerForm 0 text) _ e .0))
 
 -- A text in pieces: of a piece of whole lines and what comes behind it, the first bad line is that of the piece, else that of the rest.
 pub in-pieces : (n before : ℕ) (piece rest : List ℕ) → length piece ≡ 4 * n

@@ -10,12 +10,16 @@ use lib.Seq.{sets, length-sets, drop-cons}
 use Rattle.job.proofs.Laid.{sets-append}
 use Rattle.print.specs.Laid.{Laid}
 
+-- What is left to lay behind a run, laid on the buffer that has the run, is all of it laid on the buffer before.
+pub run-laid : {vs l l′ : List ℕ} {at p : ℕ} → Laid vs at l p l′ → (ws : List ℕ) → sets l′ p ws ≡ sets l at (vs ++ ws)
+run-laid {vs} {l} {l′} {at} {p} one ws = rw (one .laid, one .behind) (sym (sets-append l at vs ws))
+
 -- A run, and another behind it.
 pub then : {vs ws l l′ l″ : List ℕ} {at p r : ℕ} → Laid vs at l p l′ → Laid ws p l′ r l″ → Laid (vs ++ ws) at l r l″
 then {vs} {ws} {l} {l′} {l″} {at} {p} {r} one two =
     record {
       behind = two .behind ∙ ap (λ (n : ℕ). n + length ws) (one .behind) ∙ add-assoc at (length vs) (length ws) ∙ ap (λ (n : ℕ). at + n) (sym (length-append vs ws));
-      laid = two .laid ∙ rw (one .laid, one .behind) (sym (sets-append l at vs ws));
+      laid = two .laid ∙ run-laid one ws;
     }
 
 -- One byte.
