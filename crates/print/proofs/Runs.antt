@@ -22,6 +22,10 @@ then {vs} {ws} {l} {l′} {l″} {at} {p} {r} one two =
       laid = two .laid ∙ run-laid one ws;
     }
 
+-- The same bytes under another name.
+pub renamed : {vs ws l l′ : List ℕ} {at r : ℕ} → vs ≡ ws → Laid vs at l r l′ → Laid ws at l r l′
+renamed e put = record { behind = rw (← e) (put .behind); laid = rw (← e) (put .laid) }
+
 -- One byte.
 pub one-byte : (l : List ℕ) (at v : ℕ) → Laid (v ∷ []) at l (at + 1) (set l at v)
 one-byte l at v = record { behind = refl; laid = refl }

@@ -1,0 +1,79 @@
+-- The table of kinds by number: which numbers are kinds, and where the code's tables have their names and fields. Assumes nothing.
+use mathlib.Core.Path.{_≡_, refl, sym, ap, _∙_}
+use mathlib.Core.Bool.{Bool, true, false, _&&_}
+use mathlib.Core.List.{List, [], _∷_, _++_}
+use mathlib.Core.Option.{Option, none, some}
+use Prim.Native.Nat.{ℕ, zero, suc, _+_, _-_, _*_, _/_, _%_, _≤_, _<_}
+use native.Mathlib.Omega.{arith}
+use borrow.Author.Tests.{leb-true, leb-false, ne-eqb}
+use lib.Dec.{leb}
+use lib.ListN.{length, getD, take, drop, replicate}
+use Rattle.line.specs.Entries.{Kind, number, kinds, numbered}
+use Rattle.line.proofs.Every.{tested}
+use Rattle.line.proofs.Table.{tabulate, tabulated, below}
+use Rattle.line.proofs.Text.{both}
+use Rattle.names.specs.Names.{isKind, kindLine, nameOf, names}
+
+-- Every number of a part of the table is at most 16.
+upTo16 : List Kind → Bool
+upTo16 [] = true
+upTo16 (k ∷ ks) = leb (number k) 16 && upTo16 ks
+
+past : (ks : List Kind) (n : ℕ) → upTo16 ks ≡ true → 16 < n → numbered n ks ≡ none
+unfolding upTo16 numbered
+past [] n e h = refl
+past (k ∷ ks) n e h =
+    let parts = both (leb (number k) 16) (upTo16 ks) e in
+    let low : number k ≤ 16 = leb-true (number k) 16 (parts .0) in
+    rw (ne-eqb (number k) n (λ q. omega arith)) (past ks n (parts .1) h)
+
+past-kinds : (n : ℕ) → 16 < n → isKind n ≡ false
+unfolding isKind upTo16
+past-kinds n h = rw (past kinds n refl h)
+
+-- 1 to 16 are kinds, and no other number is.
+is-kinds : (n : ℕ) → n < 16 → isKind (suc n) ≡ true
+unfolding isKind numbered
+is-kinds = below 16 (λ k. isKind (suc k)) refl
+
+pub no-kind : isKind 0 ≡ false
+unfolding isKind numbered
+no-kind = refl
+
+pub up-to-last : (n : ℕ) → (n ≡ 0 → ⊥) → leb n 16 ≡ isKind n
+up-to-last zero h = absurd (h refl)
+up-to-last (suc n) h =
+    tested (leb (suc n) 16) (λ q. rw (q, is-kinds n (omega (arith, leb-true)))) (λ q. rw (q, past-kinds (suc n) (leb-false (suc n) 16 q)))
+
+-- A name has at most eight bytes.
+pub name-short : (k : ℕ) → k < 17 → length (nameOf k) ≤ 8
+unfolding nameOf kindLine numbered
+name-short k h = leb-true _ 8 (below 17 (λ n. leb (length (nameOf n)) 8) refl k h)
+
+-- The names one behind the other, with eight bytes of room for each: a name is its part of them.
+abbrev padded : ℕ → List ℕ
+padded n = nameOf n ++ replicate (8 - length (nameOf n)) 0
+
+abbrev joined : List (List ℕ) → List ℕ
+joined [] = []
+joined (l ∷ ls) = l ++ joined ls
+
+abbrev pub nameTable : List ℕ
+nameTable = joined (tabulate padded 0 17)
+
+name-at : (k : ℕ) → k < 17 → take (length (nameOf k)) (drop (8 * k) nameTable) ≡ nameOf k
+unfolding nameOf kindLine numbered
+name-at k h =
+    sym (tabulated (λ n. take (length (nameOf n)) (drop (8 * n) nameTable)) [] 17 k h) ∙ tabulated nameOf [] 17 k h
+
+pub name-part : (k end : ℕ) → k < 17 → end ≡ 8 * k + length (nameOf k) → take (end - 8 * k) (drop (8 * k) nameTable) ≡ nameOf k
+name-part k end h e =
+    let long : end - 8 * k ≡ length (nameOf k) = omega arith in
+    ap (λ (n : ℕ). take n (drop (8 * k) nameTable)) long ∙ name-at k h
+
+-- The fields one behind the other, three for each kind.
+pub field-at : (k field : ℕ) → k < 17 → field < 3 → getD (tabulate (λ i. names (i / 3) (i % 3)) 0 51) (3 * k + field) false ≡ names k field
+field-at k field h l =
+    let kind : (3 * k + field) / 3 ≡ k = omega arith in
+    let which : (3 * k + field) % 3 ≡ field = omega arith in
+    rw (kind, which) at (tabulated (λ i. names (i / 3) (i % 3)) false 51 (3 * k + field) (omega arith))
