@@ -37,7 +37,7 @@ pub fn put_decimal(out: &mut [u8], at: usize, n: u16) -> usize
 
 // How many digits a number has.
 pub fn digit_count(n: u16) -> usize
-    ensures { λ r. ⌜ r ≡ length (decimal n) ⌝ }
+    ensures { λ r. ⌜ (r ≡ length (decimal n)) × (r ≤ 5) ⌝ }
 {
     if n < 10 {
         1
