@@ -10,14 +10,14 @@ use lib.Dec.{ltb, eqb}
 use lib.ListN.{length, length-drop, drop}
 use lib.Seq.{sets}
 use Rattle.line.specs.Limits.{columnLimit}
-use Rattle.line.specs.Text.{orElse, rowsText, badLine, cdmOf, cdsOf}
+use Rattle.line.specs.Text.{orElse, rowsText, badLine, cdmOf, cdsOf, isList, listText}
 use Rattle.line.proofs.Every.{tested}
 use Rattle.line.proofs.Text.{both}
 use Rattle.job.specs.Outcome.{outcome, leaves, areBits}
 use Rattle.job.specs.declared.Outcome.the-variants.{Made, Refused}
 use Rattle.job.proofs.Ends.{not-first, then-rest, refused-answer, refused-leaves, made-answer, made-leaves}
 use Rattle.print.specs.Laid.{Laid}
-use Rattle.carry.specs.Carry.{wrongRows, rowsRefusal, Printed, textRoom, textRefusal, taken, RowsTaken}
+use Rattle.carry.specs.Carry.{wrongRows, rowsRefusal, Printed, textRoom, textRefusal, taken, RowsTaken, listRefusal}
 use Rattle.carry.specs.declared.Taken.{Taken}
 use Rattle.carry.specs.declared.Taken.the-variants as Answer
 use Rattle.carry.proofs.Columns.{text-length, row-length}
@@ -88,6 +88,20 @@ module _ (cdm cds : List ℕ) where
     pub rows-none : 8 + 4 * length cdm ≤ room → rowsRefusal cdm cds room ≡ 0
     unfolding rowsRefusal
     rows-none h = rw (e, text-length cdm cds (right-rows e .same), le-ltb _ _ h)
+
+-- A list's refusal, in the words of its branches.
+module _ (list : List ℕ) (room : ℕ) where
+  pub list-twelve : isList list ≡ false → 12 ≡ listRefusal list room
+  unfolding listRefusal
+  list-twelve q = rw q
+
+  pub list-nine : isList list ≡ true → ltb room (length (listText list)) ≡ true → 9 ≡ listRefusal list room
+  unfolding listRefusal
+  list-nine q long = rw (q, long)
+
+  pub list-none : isList list ≡ true → ltb room (length (listText list)) ≡ false → listRefusal list room ≡ 0
+  unfolding listRefusal
+  list-none q long = rw (q, long)
 
 -- So many columns that are refused by neither 5 nor 9; 11 is neither of them.
 pub room-enough : (n cdm cds : ℕ) → textRoom n cdm cds ≡ 0 → (n ≤ cdm) × (n ≤ cds)

@@ -1,5 +1,6 @@
--- What is proved of carry, beside the proofs of its functions: the rows of a text column by column, how each call ends, and that its
--- promises have one answer.
+-- What is proved of carry, beside the proofs of its functions: rows column by column, lists entry by entry, how each call ends, and
+-- that its promises have one answer.
 pub mod Columns
+pub mod Lists
 pub mod Ends
 mod Unique

@@ -6,7 +6,7 @@ use Prim.Native.Nat.{ℕ}
 use lib.Dec.{ltb, eqb}
 use lib.ListN.{length}
 use Rattle.line.specs.Limits.{columnLimit}
-use Rattle.line.specs.Text.{orElse, rowsText, badLine, cdmOf, cdsOf}
+use Rattle.line.specs.Text.{orElse, rowsText, badLine, cdmOf, cdsOf, isList, listText}
 use Rattle.job.specs.Outcome.{outcome, leaves, areBits}
 use Rattle.job.specs.declared.Outcome.{Outcome}
 use Rattle.carry.specs.declared.Taken.{Taken}
@@ -49,3 +49,10 @@ pub record RowsTaken (text cdm cds : List ℕ) (answer : Taken) (cdm-after cds-a
   pub answers : answer ≡ taken (textRefusal text (length cdm) (length cds)) (badLine text) (length (cdmOf text))
   pub leaves-cdm : cdm-after ≡ leaves (textRefusal text (length cdm) (length cds)) (cdmOf text) cdm
   pub leaves-cds : cds-after ≡ leaves (textRefusal text (length cdm) (length cds)) (cdsOf text) cds
+
+-- "List to text: 12, 9."
+unfoldable pub listRefusal : (list : List ℕ) → (room : ℕ) → ℕ
+listRefusal list room = cond (not (isList list)) 12 (cond (ltb room (length (listText list))) 9 0)
+
+abbrev pub ListPrinted : (list lent : List ℕ) → Outcome → (after : List ℕ) → Type 0
+ListPrinted list lent answer after = Printed (listRefusal list (length lent)) (listText list) lent answer after

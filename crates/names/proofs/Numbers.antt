@@ -1,6 +1,6 @@
 -- The table of kinds by number: which numbers are kinds, and where the code's tables have their names and fields. Assumes nothing.
 use mathlib.Core.Path.{_≡_, refl, sym, ap, _∙_}
-use mathlib.Core.Bool.{Bool, true, false, _&&_}
+use mathlib.Core.Bool.{Bool, true, false, _&&_, false≢true}
 use mathlib.Core.List.{List, [], _∷_, _++_}
 use mathlib.Core.Option.{Option, none, some}
 use Prim.Native.Nat.{ℕ, zero, suc, _+_, _-_, _*_, _/_, _%_, _≤_, _<_}
@@ -44,6 +44,10 @@ pub up-to-last : (n : ℕ) → (n ≡ 0 → ⊥) → leb n 16 ≡ isKind n
 up-to-last zero h = absurd (h refl)
 up-to-last (suc n) h =
     tested (leb (suc n) 16) (λ q. rw (q, is-kinds n (omega (arith, leb-true)))) (λ q. rw (q, past-kinds (suc n) (leb-false (suc n) 16 q)))
+
+pub kind-low : (n : ℕ) → isKind n ≡ true → n ≤ 16
+kind-low n e =
+    tested (leb n 16) (λ q. leb-true n 16 q) (λ q. absurd (false≢true (sym (past-kinds n (leb-false n 16 q)) ∙ e)))
 
 -- A name has at most eight bytes.
 pub name-short : (k : ℕ) → k < 17 → length (nameOf k) ≤ 8
