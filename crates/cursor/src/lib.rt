@@ -17,6 +17,33 @@ const LINE: usize = 4;
 // As many lines before a piece as count: no text has more.
 const LINE_LIMIT: usize = 9223372036854775808;
 
+// Text: "The text is walked by a cursor that holds the lent text and its place."
+pub struct Cursor<'a> {
+    pub text: &'a [u8],
+    pub at: usize,
+}
+
+// A cursor at the start of a text.
+pub fn new<'a>(text: &'a [u8]) -> Cursor<'a>
+    ensures { λ r. ⌜ (r .text ≡ text .entry) × (r .at ≡ 0) ⌝ }
+{
+    Cursor { text, at: 0 }
+}
+
+// The line walk: the first bad line of the text that begins at the cursor.
+pub fn bad_ahead<'a>(cursor: Cursor<'a>) -> usize
+    ensures { λ r. ⌜ r ≡ badLine (drop (cursor .entry .at) (now (cursor .entry .text))) ⌝ }
+{
+    bad_from(cursor.text, cursor.at)
+}
+
+// The first bad line of a text, for callers that hold no cursor.
+pub fn bad_line(text: &[u8]) -> usize
+    ensures { λ r. ⌜ r ≡ badLine (now (text .entry)) ⌝ }
+{
+    bad_ahead(new(text))
+}
+
 // The first bad line of the text that begins at a place: 1 where that is past the end.
 pub fn bad_from(text: &[u8], at: usize) -> usize
     ensures { λ r. ⌜ r ≡ badLine (drop at (now (text .entry))) ⌝ }
