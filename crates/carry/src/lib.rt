@@ -100,7 +100,7 @@ fn put_column(out: &mut [u8], at: usize, cdm: u8, cds: u8) -> usize
 pub fn text_to_rows(text: &[u8], cdm: &mut [u8], cds: &mut [u8]) -> Taken
     ensures { λ r. ⌜ RowsTaken (now (text .entry)) (now (cdm .entry)) (now (cds .entry)) r (now (cdm .exit)) (now (cds .exit)) ⌝ }
 {
-    let bad = cursor::bad_from(text, 0);
+    let bad = cursor::bad_line(text);
     if bad != 0 {
         return Taken::BadLine(bad);
     }

@@ -6,14 +6,14 @@ use Rattle.line.proofs.Text.{good-long}
 use Rattle.carry.proofs.text_to_rows.Statement.{statement}
 use Rattle.carry.proofs.text_to_rows.Tie as tie
 
-bad-from-requires : tie.Need-bad-from-requires
-bad-from-requires c κs = search needs
+bad-line-requires : tie.Need-bad-line-requires
+bad-line-requires c κs = search needs
 
 returns : tie.Need-returns
-returns c = taken-bad _ _ _ _ (c .before .bad-from .ensures) (c .if1 .taken)
+returns c = taken-bad _ _ _ _ (c .before .bad-line .ensures) (c .if1 .taken)
 
 sub-columns : tie.Need-sub-columns
-sub-columns c = let long = good-long _ (sym (c .before .bad-from .ensures) ∙ c .if1 .left) in search needs
+sub-columns c = let long = good-long _ (sym (c .before .bad-line .ensures) ∙ c .if1 .left) in search needs
 
 text-room-requires : tie.Need-text-room-requires
 text-room-requires c κs = search needs
@@ -21,13 +21,13 @@ text-room-requires c κs = search needs
 returns-2 : tie.Need-returns-2
 returns-2 c =
     let good = c .before .before in
-    taken-refused _ _ _ (sym (good .before .bad-from .ensures) ∙ good .if1 .left) _ (c .before .text-room .ensures) (c .if2 .taken)
+    taken-refused _ _ _ (sym (good .before .bad-line .ensures) ∙ good .if1 .left) _ (c .before .text-room .ensures) (c .if2 .taken)
 
 put-rows-requires : tie.Need-put-rows-requires
 put-rows-requires c κs =
     let room = c .before .before in
     let good = room .before .before in
-    let long = good-long _ (sym (good .before .bad-from .ensures) ∙ good .if1 .left) in
+    let long = good-long _ (sym (good .before .bad-line .ensures) ∙ good .if1 .left) in
     let rows = room-enough _ _ _ (sym (room .before .text-room .ensures) ∙ room .if2 .left) in
     search needs
 
@@ -42,13 +42,13 @@ returns-3 c =
     let put = c .before .before .before .before in
     let room = put .before .before .before in
     let good = room .before .before in
-    taken-columns _ _ _ (sym (good .before .bad-from .ensures) ∙ good .if1 .left) _ (room .before .text-room .ensures) (room .if2 .left) _ _ (put .put-rows .ensures)
+    taken-columns _ _ _ (sym (good .before .bad-line .ensures) ∙ good .if1 .left) _ (room .before .text-room .ensures) (room .if2 .left) _ _ (put .put-rows .ensures)
 
 pub text-to-rows-spec : {M : Type 1} → statement M
 text-to-rows-spec =
     tie.close
     (tie.spec
-    bad-from-requires
+    bad-line-requires
     returns
     sub-columns
     text-room-requires
