@@ -45,7 +45,7 @@ pub fn bad_line(text: &[u8]) -> usize
 }
 
 // The first bad line of the text that begins at a place: 1 where that is past the end.
-pub fn bad_from(text: &[u8], at: usize) -> usize
+fn bad_from(text: &[u8], at: usize) -> usize
     ensures { λ r. ⌜ r ≡ badLine (drop at (now (text .entry))) ⌝ }
 {
     if text.len() < at {

@@ -20,7 +20,15 @@ pub fn put_line(out: &mut [u8], at: usize, list: &[u8], i: usize) -> usize
     ensures { λ r. ⌜ Laid (lineAt (now (list .entry)) i) at (now (out .entry)) r (now (out .exit)) ⌝ }
 {
     let column = column_of(list[i + 1], list[i + 2]);
-    put_fields(out, at, list[i], column, list[i + 3], list[i + 4], list[i + 5])
+    put_fields(
+        out,
+        at,
+        list[i],
+        column,
+        list[i + 3],
+        list[i + 4],
+        list[i + 5],
+    )
 }
 
 // How long the line of the entry at a place of a list is.
@@ -39,7 +47,15 @@ fn column_of(high: u8, low: u8) -> u16
     high as u16 * 256 + low as u16
 }
 
-fn put_fields(out: &mut [u8], at: usize, kind: u8, column: u16, id: u8, address: u8, value: u8) -> usize
+fn put_fields(
+    out: &mut [u8],
+    at: usize,
+    kind: u8,
+    column: u16,
+    id: u8,
+    address: u8,
+    value: u8,
+) -> usize
     requires { ⌜ (kind ≤ 16) × (at + length (kindFields kind column id address value) ≤ length (now out)) ⌝ }
     ensures { λ r. ⌜ Laid (kindFields kind column id address value) at (now (out .entry)) r (now (out .exit)) ⌝ }
 {

@@ -7,7 +7,8 @@ use native.Mathlib.Nat.{add-zero}
 use native.Mathlib.Omega.{arith}
 use borrow.Author.Tests.{eqb-true}
 use lib.Dec.{eqb}
-use lib.ListN.{length, drop, getD}
+use lib.ListN.{length, drop, getD, length-drop}
+use lib.Seq.{drop-append-le}
 use Rattle.line.specs.Text.{tab, feed, digit, rowsHeader, columnLine, columnLines, rowsText, Form, exactly, bit, has, headerForm, columnForm, begins, fault, orElse, firstBad, badLine, rowIn, cdmOf, cdsOf}
 use Rattle.line.proofs.Every.{Every, tested}
 
@@ -153,3 +154,24 @@ in-pieces (suc n) before (a ∷ b ∷ c ∷ []) rest e = absurd (omega arith)
 in-pieces (suc n) before (a ∷ b ∷ c ∷ d ∷ piece) rest e =
     let on : before + 1 + n ≡ before + suc n = omega arith in
     rw (in-pieces n (before + 1) piece rest (omega arith), on, or-else-assoc (fault columnForm before (a ∷ b ∷ c ∷ d ∷ [])))
+
+-- .. and so for the first piece, which has the header.
+begins-front : (form : List Form) (front rest : List ℕ) → length form ≤ length front → begins form (front ++ rest) ≡ begins form front
+unfolding begins
+begins-front [] front rest h = refl
+begins-front (f ∷ form) [] rest h = absurd (omega arith)
+begins-front (f ∷ form) (b ∷ front) rest h = rw (begins-front form front rest (omega arith))
+
+pub first-piece : (n : ℕ) (piece rest : List ℕ) → length piece ≡ length rowsHeader + 4 * n
+    → badLine (piece ++ rest) ≡ orElse (badLine piece) (firstBad (suc n) rest)
+unfolding badLine fault
+first-piece n piece rest e =
+    let lines : length (drop 8 piece) ≡ 4 * n = length-drop 8 piece ∙ omega arith in
+    let on : 1 + n ≡ suc n = omega arith in
+    rw (
+      begins-front headerForm piece rest (omega arith),
+      drop-append-le 8 piece rest (omega arith),
+      in-pieces n 1 (drop 8 piece) rest lines,
+      on,
+      or-else-assoc (fault headerForm 0 piece),
+    )

@@ -1,13 +1,15 @@
 -- The table of kinds by number: which numbers are kinds, and where the code's tables have their names and fields. Assumes nothing.
 use mathlib.Core.Path.{_≡_, refl, sym, ap, _∙_}
-use mathlib.Core.Bool.{Bool, true, false, _&&_, false≢true}
+use mathlib.Core.Bool.{Bool, true, false, cond, _&&_, false≢true}
 use mathlib.Core.List.{List, [], _∷_, _++_}
 use mathlib.Core.Option.{Option, none, some}
 use Prim.Native.Nat.{ℕ, zero, suc, _+_, _-_, _*_, _/_, _%_, _≤_, _<_}
 use native.Mathlib.Omega.{arith}
 use borrow.Author.Tests.{leb-true, leb-false, ne-eqb}
-use lib.Dec.{leb}
+use lib.Dec.{leb, eqb}
 use lib.ListN.{length, getD, take, drop, replicate}
+use Rattle.line.specs.Bits.{num}
+use Rattle.line.specs.Text.{digit}
 use Rattle.line.specs.Entries.{Kind, number, kinds, numbered}
 use Rattle.line.proofs.Every.{tested}
 use Rattle.line.proofs.Table.{tabulate, tabulated, below}
@@ -54,9 +56,13 @@ pub name-short : (k : ℕ) → k < 17 → length (nameOf k) ≤ 8
 unfolding nameOf kindLine numbered
 name-short k h = leb-true _ 8 (below 17 (λ n. leb (length (nameOf n)) 8) refl k h)
 
+-- What fills a table's room.
+abbrev blank : ℕ
+blank = 32
+
 -- The names one behind the other, with eight bytes of room for each: a name is its part of them.
 abbrev padded : ℕ → List ℕ
-padded n = nameOf n ++ replicate (8 - length (nameOf n)) 0
+padded n = nameOf n ++ replicate (8 - length (nameOf n)) blank
 
 abbrev joined : List (List ℕ) → List ℕ
 joined [] = []
@@ -75,9 +81,22 @@ name-part k end h e =
     let long : end - 8 * k ≡ length (nameOf k) = omega arith in
     ap (λ (n : ℕ). take n (drop (8 * k) nameTable)) long ∙ name-at k h
 
--- The fields one behind the other, three for each kind.
-pub field-at : (k field : ℕ) → k < 17 → field < 3 → getD (tabulate (λ i. names (i / 3) (i % 3)) 0 51) (3 * k + field) false ≡ names k field
+-- The lengths of the names, a digit each.
+pub length-at : (k : ℕ) → k < 17 → getD (tabulate (λ n. digit (length (nameOf n))) 0 17) k 0 ≡ digit (length (nameOf k))
+length-at k h = tabulated (λ n. digit (length (nameOf n))) 0 17 k h
+
+-- The fields one behind the other, a digit each, with a blank behind the three of a kind.
+abbrev pub fieldDigit : ℕ → ℕ
+fieldDigit i = cond (eqb (i % 4) 3) blank (digit (num (names (i / 4) (i % 4))))
+
+is-one : (b : Bool) → eqb (digit (num b)) (digit 1) ≡ b
+is-one true = refl
+is-one false = refl
+
+pub field-at : (k field : ℕ) → k < 17 → field < 3
+    → eqb (getD (tabulate fieldDigit 0 68) (4 * k + field) 0) (digit 1) ≡ names k field
 field-at k field h l =
-    let kind : (3 * k + field) / 3 ≡ k = omega arith in
-    let which : (3 * k + field) % 3 ≡ field = omega arith in
-    rw (kind, which) at (tabulated (λ i. names (i / 3) (i % 3)) false 51 (3 * k + field) (omega arith))
+    let kind : (4 * k + field) / 4 ≡ k = omega arith in
+    let which : (4 * k + field) % 4 ≡ field = omega arith in
+    let some : eqb field 3 ≡ false = ne-eqb field 3 (λ q. omega arith) in
+    rw (tabulated fieldDigit 0 68 (4 * k + field) (omega arith), kind, which, some) (is-one (names k field))

@@ -48,8 +48,7 @@ loop-again c =
     let put = c .before .before .put-column .ensures in
     let turn = c .before .before .before .before .before .before in
     let l = turn .before .loop in
-    let a = turn .before .before .before .before .before .args in
-    (
+    let a = turn .before .before .before .before .before .args in (
       search needs,
       search needs,
       laid-length put ∙ l .inv .2,

@@ -48,8 +48,7 @@ loop-again c =
     let put = c .before .before in
     let turn = put .before .before in
     let l = turn .before .loop in
-    let long = lines-length _ (l .i) (turn .loop-test .taken) (l .inv .1) in
-    (
+    let long = lines-length _ (l .i) (turn .loop-test .taken) (l .inv .1) in (
       search needs,
       list-behind _ (l .i) (turn .loop-test .taken) (l .inv .1),
       laid-length (put .put-line .ensures) ∙ l .inv .2,

@@ -51,8 +51,7 @@ loop-again : tie.Need-loop-again Inv-loop μ-loop
 loop-again c =
     let turn = c .before .before in
     let l = turn .before .loop in
-    let a = turn .before .before .args in
-    (
+    let a = turn .before .before .args in (
       search needs,
       search needs,
       rw length-set (l .inv .2),
@@ -71,8 +70,7 @@ returns : tie.Need-returns Inv-loop μ-loop
 unfolding cdmOf cdsOf
 returns c =
     let l = c .before .loop in
-    let a = c .before .before .args in
-    (
+    let a = c .before .before .args in (
       sym (digits-laid-none (a .text .now) (l .cdm) (l .i) (l .k) 0 (search needs)) ∙ l .inv .4,
       sym (digits-laid-none (a .text .now) (l .cds) (l .i) (l .k) 2 (search needs)) ∙ l .inv .5,
     )

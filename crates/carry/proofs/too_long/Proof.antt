@@ -57,8 +57,7 @@ loop-again : tie.Need-loop-again Inv-loop μ-loop
 loop-again c =
     let turn = c .before .before in
     let l = turn .before .loop in
-    let long = lines-length _ (l .i) (turn .loop-test .taken) (l .inv .1) in
-    (
+    let long = lines-length _ (l .i) (turn .loop-test .taken) (l .inv .1) in (
       search needs,
       list-behind _ (l .i) (turn .loop-test .taken) (l .inv .1),
       less-room (l .left) _ _ (c .if2 .left)

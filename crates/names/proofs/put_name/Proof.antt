@@ -18,6 +18,9 @@ name-length-requires c κs = search needs
 add-end : tie.Need-add-end
 add-end c = search needs
 
+slice-aggregate-names : tie.Need-slice-aggregate-names
+slice-aggregate-names c = search needs
+
 sub-put-bytes : tie.Need-sub-put-bytes
 sub-put-bytes c = search needs
 
@@ -48,6 +51,7 @@ put-name-spec =
     mul-start
     name-length-requires
     add-end
+    slice-aggregate-names
     sub-put-bytes
     part-put-bytes-start
     part-put-bytes-end

@@ -53,7 +53,7 @@ put-decimal-put-decimal-requires : (t : ℕ) → put-decimal-lts.Need-put-decima
   put-decimal-below t,
   put-decimal.Post,
 ) (put-decimal-at t) put-decimal.Post
-put-decimal-put-decimal-requires t c κs = 
+put-decimal-put-decimal-requires t c κs =
     let shorter = decimal-longer _ (c .before .if1 .left) in
     let room = c .before .before .before .pre in
     (search needs, search needs)
