@@ -11,9 +11,8 @@ use lib.Dec.{leb}
 use lib.ListN.{length, length-append, length-drop, drop, drop-of-length-le, getD, set}
 use lib.Seq.{sets, drop-cons}
 use Rattle.line.specs.Text.{columnLine, columnLines, rowsText, rowIn, cdmOf, cdsOf}
-use Rattle.line.proofs.Text.{both}
+use Rattle.line.proofs.Text.{both, four}
 use Rattle.job.specs.Outcome.{areBits}
-use Rattle.cursor.proofs.Lines.{four}
 
 -- Every byte of a row of bits is 0 or 1.
 pub bit-at : (row : List ℕ) (k : ℕ) → areBits row ≡ true → k < length row → getD row k 0 ≤ 1

@@ -1,42 +1,23 @@
--- How carry's calls end: what lets rows and texts through, and the ends of each call. Assumes nothing.
+-- How carry's calls end: what lets rows and texts through, and the ends of text to rows. Assumes nothing.
 use mathlib.Core.Path.{_≡_, refl, sym, ap, _∙_}
 use mathlib.Core.Bool.{Bool, true, false, cond, not, _&&_, _||_, false≢true}
 use mathlib.Core.List.{List}
 use Prim.Native.Nat.{ℕ, zero, suc, _+_, _-_, _*_, _/_, _≤_, _<_}
-use native.Mathlib.Nat.{zero-add}
 use native.Mathlib.Omega.{arith}
 use borrow.Author.Tests.{lt-ltb, le-ltb, ltb-false, eqb-true, eq-eqb, ne-eqb}
 use lib.Dec.{ltb, eqb}
 use lib.ListN.{length, length-drop, drop}
 use lib.Seq.{sets}
 use Rattle.line.specs.Limits.{columnLimit}
-use Rattle.line.specs.Text.{orElse, rowsText, badLine, cdmOf, cdsOf, isList, listText}
+use Rattle.line.specs.Text.{orElse, rowsText, badLine, cdmOf, cdsOf}
 use Rattle.line.proofs.Every.{tested}
 use Rattle.line.proofs.Text.{both}
-use Rattle.job.specs.Outcome.{outcome, leaves, areBits}
-use Rattle.job.specs.declared.Outcome.the-variants.{Made, Refused}
-use Rattle.job.proofs.Ends.{not-first, then-rest, refused-answer, refused-leaves, made-answer, made-leaves}
-use Rattle.print.specs.Laid.{Laid}
-use Rattle.carry.specs.Carry.{wrongRows, rowsRefusal, Printed, textRoom, textRefusal, taken, RowsTaken, listRefusal}
+use Rattle.job.specs.Outcome.{leaves, areBits}
+use Rattle.job.proofs.Ends.{not-first, then-rest, refused-leaves, made-leaves}
+use Rattle.carry.specs.Carry.{wrongRows, rowsRefusal, textRoom, textRefusal, taken, RowsTaken}
 use Rattle.carry.specs.declared.Taken.{Taken}
 use Rattle.carry.specs.declared.Taken.the-variants as Answer
 use Rattle.carry.proofs.Columns.{text-length, row-length}
-
--- The two ends of a call that prints.
-pub printed-refused : (refusal why : ℕ) (text lent : List ℕ) → why ≡ refusal → (why ≡ 0 → ⊥) → Printed refusal text lent (Refused why) lent
-printed-refused refusal why text lent e h =
-    record {
-      answers = rw (← e) (refused-answer why (length text) h);
-      leaves-text = rw (← e) (refused-leaves why text lent h);
-    }
-
-pub printed-made : (refusal : ℕ) (text lent : List ℕ) {n : ℕ} {after : List ℕ} → refusal ≡ 0 → length text ≤ length lent
-    → Laid text 0 lent n after → Printed refusal text lent (Made n) after
-printed-made refusal text lent {n} {after} e h put =
-    record {
-      answers = rw (put .behind, zero-add) (made-answer refusal (length text) e);
-      leaves-text = put .laid ∙ made-leaves refusal text lent e h;
-    }
 
 -- Of two conditions, neither holds; one that is denied holds.
 no-either : (a b : Bool) → a || b ≡ false → (a ≡ false) × (b ≡ false)
@@ -88,20 +69,6 @@ module _ (cdm cds : List ℕ) where
     pub rows-none : 8 + 4 * length cdm ≤ room → rowsRefusal cdm cds room ≡ 0
     unfolding rowsRefusal
     rows-none h = rw (e, text-length cdm cds (right-rows e .same), le-ltb _ _ h)
-
--- A list's refusal, in the words of its branches.
-module _ (list : List ℕ) (room : ℕ) where
-  pub list-twelve : isList list ≡ false → 12 ≡ listRefusal list room
-  unfolding listRefusal
-  list-twelve q = rw q
-
-  pub list-nine : isList list ≡ true → ltb room (length (listText list)) ≡ true → 9 ≡ listRefusal list room
-  unfolding listRefusal
-  list-nine q long = rw (q, long)
-
-  pub list-none : isList list ≡ true → ltb room (length (listText list)) ≡ false → listRefusal list room ≡ 0
-  unfolding listRefusal
-  list-none q long = rw (q, long)
 
 -- So many columns that are refused by neither 5 nor 9; 11 is neither of them.
 pub room-enough : (n cdm cds : ℕ) → textRoom n cdm cds ≡ 0 → (n ≤ cdm) × (n ≤ cds)

@@ -1,4 +1,4 @@
--- The job carry: when its calls refuse, and what they make. The texts themselves are line's (specs/Text).
+-- Rows and text: when the two calls refuse, and what they make. The texts themselves are line's (specs/Text).
 use mathlib.Core.Path.{_≡_}
 use mathlib.Core.Bool.{Bool, cond, not, _&&_, _||_}
 use mathlib.Core.List.{List}
@@ -6,9 +6,10 @@ use Prim.Native.Nat.{ℕ}
 use lib.Dec.{ltb, eqb}
 use lib.ListN.{length}
 use Rattle.line.specs.Limits.{columnLimit}
-use Rattle.line.specs.Text.{orElse, rowsText, badLine, cdmOf, cdsOf, isList, listText}
-use Rattle.job.specs.Outcome.{outcome, leaves, areBits}
+use Rattle.line.specs.Text.{orElse, rowsText, badLine, cdmOf, cdsOf}
+use Rattle.job.specs.Outcome.{leaves, areBits}
 use Rattle.job.specs.declared.Outcome.{Outcome}
+use Rattle.print.specs.Printed.{Printed}
 use Rattle.carry.specs.declared.Taken.{Taken}
 use Rattle.carry.specs.declared.Taken.the-variants.{Columns, Refused, BadLine}
 
@@ -22,11 +23,7 @@ wrongRows cdm cds =
 unfoldable pub rowsRefusal : (cdm cds : List ℕ) → (room : ℕ) → ℕ
 rowsRefusal cdm cds room = orElse (wrongRows cdm cds) (cond (ltb room (length (rowsText cdm cds))) 9 0)
 
--- What a call that prints answers, in bytes, and what it leaves in the lent buffer.
-pub record Printed (refusal : ℕ) (text lent : List ℕ) (answer : Outcome) (after : List ℕ) : Type 0 where
-  pub answers : answer ≡ outcome refusal (length text)
-  pub leaves-text : after ≡ leaves refusal text lent
-
+-- What rows to text promises.
 abbrev pub RowsPrinted : (cdm cds lent : List ℕ) → Outcome → (after : List ℕ) → Type 0
 RowsPrinted cdm cds lent answer after = Printed (rowsRefusal cdm cds (length lent)) (rowsText cdm cds) lent answer after
 
@@ -49,10 +46,3 @@ pub record RowsTaken (text cdm cds : List ℕ) (answer : Taken) (cdm-after cds-a
   pub answers : answer ≡ taken (textRefusal text (length cdm) (length cds)) (badLine text) (length (cdmOf text))
   pub leaves-cdm : cdm-after ≡ leaves (textRefusal text (length cdm) (length cds)) (cdmOf text) cdm
   pub leaves-cds : cds-after ≡ leaves (textRefusal text (length cdm) (length cds)) (cdsOf text) cds
-
--- "List to text: 12, 9."
-unfoldable pub listRefusal : (list : List ℕ) → (room : ℕ) → ℕ
-listRefusal list room = cond (not (isList list)) 12 (cond (ltb room (length (listText list))) 9 0)
-
-abbrev pub ListPrinted : (list lent : List ℕ) → Outcome → (after : List ℕ) → Type 0
-ListPrinted list lent answer after = Printed (listRefusal list (length lent)) (listText list) lent answer after

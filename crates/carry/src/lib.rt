@@ -1,15 +1,14 @@
-// The job carry: rows to text, text to rows, a list to text. Each answers what it made, or refuses with a number of paper 01 and leaves
-// every lent byte as it was.
+// The job carry, for rows: rows to text and text to rows; for a list it is entries::list_to_text. Each call answers what it made, or
+// refuses with a number of paper 01 and leaves every lent byte as it was.
 ghost use mathlib.Core.Path.{_≡_};
 ghost use mathlib.Core.Bool.{true};
 ghost use Prim.Native.Nat.{_+_, _*_, _≤_};
-ghost use lib.Dec.{ltb};
 ghost use lib.ListN.{length};
 ghost use lib.Seq.{sets};
-ghost use Rattle.line.specs.Text.{columnLine, columnLines, cdmOf, cdsOf, isList, entryLines, listText};
+ghost use Rattle.line.specs.Text.{columnLine, columnLines, cdmOf, cdsOf};
 ghost use Rattle.job.specs.Outcome.{areBits};
 ghost use Rattle.print.specs.Laid.{Laid};
-ghost use Rattle.carry.specs.Carry.{wrongRows, textRoom, RowsPrinted, RowsTaken, ListPrinted};
+ghost use Rattle.carry.specs.Carry.{wrongRows, textRoom, RowsPrinted, RowsTaken};
 use job::Outcome;
 
 // Columns: "A row has 0 to 4,096 columns."
@@ -19,11 +18,6 @@ const COLUMN_LIMIT: usize = 4096;
 const HEADER: usize = 8;
 
 const LINE: usize = 4;
-
-// Text: a list's header line, of thirty bytes. Entries: "Six bytes".
-const LIST_HEADER: usize = 30;
-
-const ENTRY: usize = 6;
 
 // What text to rows answers.
 pub enum Taken {
@@ -141,70 +135,4 @@ fn put_rows(text: &[u8], cdm: &mut [u8], cds: &mut [u8], columns: usize)
         k += 1;
         i += LINE;
     }
-}
-
-// List to text: refusals 12, 9.
-pub fn list_to_text(list: &[u8], out: &mut [u8]) -> Outcome
-    ensures { λ r. ⌜ ListPrinted (now (list .entry)) (now (out .entry)) r (now (out .exit)) ⌝ }
-{
-    if is_list(list) {
-        if too_long(list, out.len()) {
-            return Outcome::Refused(9);
-        }
-        let p = print::put_bytes(out, 0, b"event\tcolumn\tid\taddress\tvalue\n");
-        let n = put_lines(out, p, list);
-        Outcome::Made(n)
-    } else {
-        Outcome::Refused(12)
-    }
-}
-
-// Whether a list's length is a multiple of six and its kinds are kinds.
-fn is_list(list: &[u8]) -> bool
-    ensures { λ r. ⌜ r ≡ isList (now (list .entry)) ⌝ }
-{
-    let mut i = 0;
-    while ENTRY <= list.len() - i {
-        if names::is_kind(list[i]) {
-            i += ENTRY;
-        } else {
-            return false;
-        }
-    }
-    i == list.len()
-}
-
-// Whether a list's text needs more room than this; the room is counted down, for no sum of lengths can wrap then.
-fn too_long(list: &[u8], room: usize) -> bool
-    requires { ⌜ isList (now list) ≡ true ⌝ }
-    ensures { λ r. ⌜ r ≡ ltb room (length (listText (now (list .entry)))) ⌝ }
-{
-    if room < LIST_HEADER {
-        return true;
-    }
-    let mut left = room - LIST_HEADER;
-    let mut i = 0;
-    while ENTRY <= list.len() - i {
-        let n = entries::line_length(list, i);
-        if left < n {
-            return true;
-        }
-        left -= n;
-        i += ENTRY;
-    }
-    false
-}
-
-// "one entry a line"
-fn put_lines(out: &mut [u8], at: usize, list: &[u8]) -> usize
-    requires { ⌜ (isList (now list) ≡ true) × (at + length (entryLines (now list)) ≤ length (now out)) ⌝ }
-    ensures { λ r. ⌜ Laid (entryLines (now (list .entry))) at (now (out .entry)) r (now (out .exit)) ⌝ }
-{
-    let mut p = at;
-    let mut i = 0;
-    while ENTRY <= list.len() - i {
-        p = entries::put_line(out, p, list, i);
-        i += ENTRY;
-    }
-    p
 }

@@ -12,7 +12,7 @@ use lib.ListN.{length, drop, getD, length-drop, length-map, drop-of-length-le}
 use lib.Seq.{drop-cons, drop-drop}
 use Rattle.line.specs.Text.{Form, exactly, columnForm, begins, fault, orElse, firstBad, badLine, headerForm}
 use Rattle.line.proofs.Every.{tested}
-use Rattle.line.proofs.Text.{begins-long}
+use Rattle.line.proofs.Text.{four, begins-long}
 
 -- The form of a line of given bytes, from its byte j on: decided by that byte, or by those behind it, or by none.
 module _ (line text : List ℕ) (at j : ℕ) where
@@ -38,25 +38,7 @@ too-short line text at h =
     (λ q. absurd (omega (arith, begins-long (map exactly line) (drop at text) q, length-map line exactly, length-drop at text)))
     (λ q. q)
 
--- Its first four bytes, and what a text of fewer is.
-pub four : (text : List ℕ) (i : ℕ) → 4 ≤ length text - i
-    → drop i text ≡ getD text i 0 ∷ getD text (i + 1) 0 ∷ getD text (i + 2) 0 ∷ getD text (i + 3) 0 ∷ drop (i + 4) text
-four text i h =
-    let one : suc i ≡ i + 1 = omega arith in
-    let two : suc (i + 1) ≡ i + 2 = omega arith in
-    let three : suc (i + 2) ≡ i + 3 = omega arith in
-    let last : suc (i + 3) ≡ i + 4 = omega arith in
-    rw (
-      drop-cons text i 0 (omega arith),
-      one,
-      drop-cons text (i + 1) 0 (omega arith),
-      two,
-      drop-cons text (i + 2) 0 (omega arith),
-      three,
-      drop-cons text (i + 3) 0 (omega arith),
-      last,
-    )
-
+-- A text of fewer than four bytes.
 cut-fault : (text : List ℕ) (before : ℕ) → length text < 4 → fault columnForm before text ≡ suc before
 unfolding fault
 cut-fault text before h =

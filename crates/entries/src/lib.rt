@@ -1,11 +1,20 @@
-// An entry's line (01, Text): "one entry a line, decimal, the kind by name, `-` for a field the kind doesn't name". Of six bytes of a
-// list it is laid into a lent buffer, or only its length is worked out.
+// A list to text (01, Text): the header, "then one entry a line, decimal, the kind by name, `-` for a field the kind doesn't name". It
+// answers Made with the number of bytes, or Refused with 12 or 9 and the lent buffer as it was.
 ghost use mathlib.Core.Path.{_≡_};
+ghost use mathlib.Core.Bool.{true};
 ghost use Prim.Native.Nat.{_+_, _*_, _≤_};
+ghost use lib.Dec.{ltb};
 ghost use lib.ListN.{length, getD};
-ghost use Rattle.line.specs.Text.{field};
+ghost use Rattle.line.specs.Text.{field, isList, entryLines, listText};
 ghost use Rattle.print.specs.Laid.{Laid};
 ghost use Rattle.entries.specs.Lines.{kindFields, lineAt};
+ghost use Rattle.entries.specs.Lists.{ListPrinted};
+use job::Outcome;
+
+// Text: a list's header line, of thirty bytes. Entries: "Six bytes".
+const LIST_HEADER: usize = 30;
+
+const ENTRY: usize = 6;
 
 // The fields of an entry, by their place in the table of kinds.
 const ID: usize = 0;
@@ -14,8 +23,74 @@ const ADDRESS: usize = 1;
 
 const VALUE: usize = 2;
 
+// List to text: refusals 12, 9.
+pub fn list_to_text(list: &[u8], out: &mut [u8]) -> Outcome
+    ensures { λ r. ⌜ ListPrinted (now (list .entry)) (now (out .entry)) r (now (out .exit)) ⌝ }
+{
+    if is_list(list) {
+        if too_long(list, out.len()) {
+            return Outcome::Refused(9);
+        }
+        let p = print::put_bytes(out, 0, b"event\tcolumn\tid\taddress\tvalue\n");
+        let n = put_lines(out, p, list);
+        Outcome::Made(n)
+    } else {
+        Outcome::Refused(12)
+    }
+}
+
+// Whether a list's length is a multiple of six and its kinds are kinds.
+fn is_list(list: &[u8]) -> bool
+    ensures { λ r. ⌜ r ≡ isList (now (list .entry)) ⌝ }
+{
+    let mut i = 0;
+    while ENTRY <= list.len() - i {
+        if names::is_kind(list[i]) {
+            i += ENTRY;
+        } else {
+            return false;
+        }
+    }
+    i == list.len()
+}
+
+// Whether a list's text needs more room than this; the room is counted down, for no sum of lengths can wrap then.
+fn too_long(list: &[u8], room: usize) -> bool
+    requires { ⌜ isList (now list) ≡ true ⌝ }
+    ensures { λ r. ⌜ r ≡ ltb room (length (listText (now (list .entry)))) ⌝ }
+{
+    if room < LIST_HEADER {
+        return true;
+    }
+    let mut left = room - LIST_HEADER;
+    let mut i = 0;
+    while ENTRY <= list.len() - i {
+        let n = line_length(list, i);
+        if left < n {
+            return true;
+        }
+        left -= n;
+        i += ENTRY;
+    }
+    false
+}
+
+// "one entry a line"
+fn put_lines(out: &mut [u8], at: usize, list: &[u8]) -> usize
+    requires { ⌜ (isList (now list) ≡ true) × (at + length (entryLines (now list)) ≤ length (now out)) ⌝ }
+    ensures { λ r. ⌜ Laid (entryLines (now (list .entry))) at (now (out .entry)) r (now (out .exit)) ⌝ }
+{
+    let mut p = at;
+    let mut i = 0;
+    while ENTRY <= list.len() - i {
+        p = put_line(out, p, list, i);
+        i += ENTRY;
+    }
+    p
+}
+
 // Lays the line of the entry at a place of a list, and answers the place behind it.
-pub fn put_line(out: &mut [u8], at: usize, list: &[u8], i: usize) -> usize
+fn put_line(out: &mut [u8], at: usize, list: &[u8], i: usize) -> usize
     requires { ⌜ (i + 6 ≤ length (now list)) × (getD (now list) i 0 ≤ 16) × (at + length (lineAt (now list) i) ≤ length (now out)) ⌝ }
     ensures { λ r. ⌜ Laid (lineAt (now (list .entry)) i) at (now (out .entry)) r (now (out .exit)) ⌝ }
 {
@@ -32,7 +107,7 @@ pub fn put_line(out: &mut [u8], at: usize, list: &[u8], i: usize) -> usize
 }
 
 // How long the line of the entry at a place of a list is.
-pub fn line_length(list: &[u8], i: usize) -> usize
+fn line_length(list: &[u8], i: usize) -> usize
     requires { ⌜ (i + 6 ≤ length (now list)) × (getD (now list) i 0 ≤ 16) ⌝ }
     ensures { λ r. ⌜ r ≡ length (lineAt (now (list .entry)) i) ⌝ }
 {

@@ -2,13 +2,13 @@
 use mathlib.Core.Path.{_≡_, refl, sym, ap, _∙_}
 use mathlib.Core.Bool.{Bool, true, false, _&&_, false≢true}
 use mathlib.Core.List.{List, [], _∷_, _++_, map}
-use Prim.Native.Nat.{ℕ, zero, suc, _+_, _*_, _%_, _≤_, _<_}
+use Prim.Native.Nat.{ℕ, zero, suc, _+_, _-_, _*_, _%_, _≤_, _<_}
 use native.Mathlib.Nat.{add-zero}
 use native.Mathlib.Omega.{arith}
 use borrow.Author.Tests.{eqb-true}
 use lib.Dec.{eqb}
 use lib.ListN.{length, drop, getD, length-drop}
-use lib.Seq.{drop-append-le}
+use lib.Seq.{drop-cons, drop-append-le}
 use Rattle.line.specs.Text.{tab, feed, digit, rowsHeader, columnLine, columnLines, rowsText, Form, exactly, bit, has, headerForm, columnForm, begins, fault, orElse, firstBad, badLine, rowIn, cdmOf, cdsOf}
 use Rattle.line.proofs.Every.{Every, tested}
 
@@ -174,4 +174,23 @@ first-piece n piece rest e =
       in-pieces n 1 (drop 8 piece) rest lines,
       on,
       or-else-assoc (fault headerForm 0 piece),
+    )
+
+-- The first four bytes of a text from a place on.
+pub four : (text : List ℕ) (i : ℕ) → 4 ≤ length text - i
+    → drop i text ≡ getD text i 0 ∷ getD text (i + 1) 0 ∷ getD text (i + 2) 0 ∷ getD text (i + 3) 0 ∷ drop (i + 4) text
+four text i h =
+    let one : suc i ≡ i + 1 = omega arith in
+    let two : suc (i + 1) ≡ i + 2 = omega arith in
+    let three : suc (i + 2) ≡ i + 3 = omega arith in
+    let last : suc (i + 3) ≡ i + 4 = omega arith in
+    rw (
+      drop-cons text i 0 (omega arith),
+      one,
+      drop-cons text (i + 1) 0 (omega arith),
+      two,
+      drop-cons text (i + 2) 0 (omega arith),
+      three,
+      drop-cons text (i + 3) 0 (omega arith),
+      last,
     )

@@ -1,4 +1,4 @@
--- A list's bytes entry by entry, from a place on: whether they are a list, and their lines. Assumes nothing.
+-- A list's bytes entry by entry, from a place on: whether they are a list, and their lines; and a list's refusal. Assumes nothing.
 use mathlib.Core.Path.{_≡_, refl, sym, ap, _∙_}
 use mathlib.Core.Bool.{Bool, true, false, _&&_, false≢true}
 use mathlib.Core.List.{List, [], _∷_, _++_}
@@ -12,12 +12,12 @@ use lib.Seq.{drop-cons}
 use Rattle.line.specs.Entries.{Kind, table, kinds, numbered, entryOf, fromBytes}
 use Rattle.line.specs.Text.{entryLine, lineOf, entryLines, listText, isEntry, isList}
 use Rattle.line.proofs.Every.{tested}
-use Rattle.line.proofs.Text.{both}
-use Rattle.cursor.proofs.Lines.{four}
+use Rattle.line.proofs.Text.{both, four}
 use Rattle.names.specs.Names as Names
 use Rattle.names.specs.Names.{isKind, isOne, kindLine}
 use Rattle.names.proofs.Numbers.{kind-low}
 use Rattle.entries.specs.Lines.{kindFields, lineAt}
+use Rattle.entries.specs.Lists.{listRefusal}
 
 -- Six bytes are an entry where the first is a kind's number, and then their line is that of the number and the fields.
 entry-is : (o : Option Kind) (column id address value : ℕ) → isEntry (entryOf o column id address value) ≡ isOne o
@@ -104,6 +104,20 @@ module _ (l : List ℕ) (i : ℕ) where
 pub text-length : (l : List ℕ) → length (listText l) ≡ 30 + length (entryLines l)
 unfolding listText
 text-length l = omega arith
+
+-- A list's refusal, in the words of its branches.
+module _ (list : List ℕ) (room : ℕ) where
+  pub list-twelve : isList list ≡ false → 12 ≡ listRefusal list room
+  unfolding listRefusal
+  list-twelve q = rw q
+
+  pub list-nine : isList list ≡ true → ltb room (length (listText list)) ≡ true → 9 ≡ listRefusal list room
+  unfolding listRefusal
+  list-nine q long = rw (q, long)
+
+  pub list-none : isList list ≡ true → ltb room (length (listText list)) ≡ false → listRefusal list room ≡ 0
+  unfolding listRefusal
+  list-none q long = rw (q, long)
 
 -- Room counted down.
 pub less-room : (room n rest : ℕ) → n ≤ room → ltb (room - n) rest ≡ ltb room (n + rest)

@@ -1,12 +1,12 @@
--- `carry::is_list` meets its contract. The loop's invariant: the entries that are left decide what all of them decide. Assumes nothing.
+-- `entries::is_list` meets its contract. The loop's invariant: the entries that are left decide what all of them decide. Assumes nothing.
 use mathlib.Core.Path.{_≡_, sym, _∙_}
 use Prim.Native.Nat.{_-_, _≤_}
 use borrow.Author.Needs.{needs}
 use lib.ListN.{length, drop}
-use Rattle.carry.proofs.Lists.{good-entry, bad-entry, no-entry}
+use Rattle.entries.proofs.Lists.{good-entry, bad-entry, no-entry}
 use Rattle.line.specs.Text.{isList}
-use Rattle.carry.proofs.is_list.Statement.{statement}
-use Rattle.carry.proofs.is_list.Tie as tie
+use Rattle.entries.proofs.is_list.Statement.{statement}
+use Rattle.entries.proofs.is_list.Tie as tie
 
 abbrev Inv-loop : tie.InvT-loop
 Inv-loop list i₀ i = (i ≤ length list) × (isList (drop i list) ≡ isList list)

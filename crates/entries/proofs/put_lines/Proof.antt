@@ -1,4 +1,4 @@
--- `carry::put_lines` meets its contract. The loop's invariant: the lines that are left, laid on the buffer of now, are all the lines laid
+-- `entries::put_lines` meets its contract. The loop's invariant: the lines that are left, laid on the buffer of now, are all the lines laid
 -- on the first buffer. Assumes nothing.
 use mathlib.Core.Bool.{true}
 use mathlib.Core.Path.{_≡_, sym, ap, _∙_}
@@ -7,11 +7,11 @@ use native.Mathlib.Omega.{arith}
 use borrow.Author.Needs.{needs}
 use lib.ListN.{length, drop}
 use lib.Seq.{sets}
-use Rattle.carry.proofs.Lists.{entry-kind, list-behind, line-more, lines-length, line-none}
+use Rattle.entries.proofs.Lists.{entry-kind, list-behind, line-more, lines-length, line-none}
 use Rattle.line.specs.Text.{isList, entryLines}
 use Rattle.print.proofs.Runs.{run-laid, laid-length}
-use Rattle.carry.proofs.put_lines.Statement.{statement}
-use Rattle.carry.proofs.put_lines.Tie as tie
+use Rattle.entries.proofs.put_lines.Statement.{statement}
+use Rattle.entries.proofs.put_lines.Tie as tie
 
 abbrev Inv-loop : tie.InvT-loop
 Inv-loop out₀ at list p₀ i₀ out p i =

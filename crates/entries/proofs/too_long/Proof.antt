@@ -1,4 +1,4 @@
--- `carry::too_long` meets its contract. The loop's invariant: the lines that are left need more than the room that is left exactly where
+-- `entries::too_long` meets its contract. The loop's invariant: the lines that are left need more than the room that is left exactly where
 -- the text needs more than all of it. Assumes nothing.
 use mathlib.Core.Bool.{true}
 use mathlib.Core.Path.{_≡_, sym, ap, _∙_}
@@ -8,10 +8,10 @@ use borrow.Author.Needs.{needs}
 use borrow.Author.Tests.{lt-ltb, le-ltb}
 use lib.Dec.{ltb}
 use lib.ListN.{length, drop}
-use Rattle.carry.proofs.Lists.{entry-kind, list-behind, lines-length, line-none, text-length, less-room}
+use Rattle.entries.proofs.Lists.{entry-kind, list-behind, lines-length, line-none, text-length, less-room}
 use Rattle.line.specs.Text.{isList, entryLines, listText}
-use Rattle.carry.proofs.too_long.Statement.{statement}
-use Rattle.carry.proofs.too_long.Tie as tie
+use Rattle.entries.proofs.too_long.Statement.{statement}
+use Rattle.entries.proofs.too_long.Tie as tie
 
 abbrev Inv-loop : tie.InvT-loop
 Inv-loop list room left₀ i₀ left i =

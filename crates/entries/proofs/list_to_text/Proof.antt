@@ -1,15 +1,16 @@
--- `carry::list_to_text` meets its contract: the header, and then the entries' lines. Assumes nothing.
+-- `entries::list_to_text` meets its contract: the header, and then the entries' lines. Assumes nothing.
 use mathlib.Core.Path.{_≡_, sym, _∙_}
 use Prim.Native.Nat.{_≤_}
 use borrow.Author.Needs.{needs}
 use borrow.Author.Tests.{ltb-false}
 use lib.ListN.{length}
-use Rattle.carry.proofs.Ends.{printed-refused, printed-made, list-twelve, list-nine, list-none}
-use Rattle.carry.proofs.Lists.{text-length}
+use Rattle.print.proofs.Ends.{printed-refused, printed-made}
+use Rattle.entries.proofs.Lists.{list-twelve, list-nine, list-none}
+use Rattle.entries.proofs.Lists.{text-length}
 use Rattle.line.specs.Text.{listText}
 use Rattle.print.proofs.Runs.{then, laid-length}
-use Rattle.carry.proofs.list_to_text.Statement.{statement}
-use Rattle.carry.proofs.list_to_text.Tie as tie
+use Rattle.entries.proofs.list_to_text.Statement.{statement}
+use Rattle.entries.proofs.list_to_text.Tie as tie
 
 is-list-requires : tie.Need-is-list-requires
 is-list-requires c κs = search needs
