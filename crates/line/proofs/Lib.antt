@@ -5,6 +5,7 @@ pub mod Cases
 pub mod Division
 pub mod Words
 pub mod Codec
+pub mod Text
 pub mod Channels
 pub mod Rest
 pub mod Dress

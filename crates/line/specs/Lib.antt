@@ -21,5 +21,6 @@ pub mod Reader
 pub mod Account
 pub mod Replay
 pub mod Runs
+pub mod Text
 pub mod Channels
 pub mod Card

@@ -1,0 +1,140 @@
+-- How carry's calls end: what lets rows and texts through, and the ends of text to rows. Assumes nothing.
+use mathlib.Core.Path.{_≡_, refl, sym, ap, _∙_}
+use mathlib.Core.Bool.{Bool, true, false, cond, not, _&&_, _||_, false≢true}
+use mathlib.Core.List.{List}
+use Prim.Native.Nat.{ℕ, zero, suc, _+_, _-_, _*_, _/_, _≤_, _<_}
+use native.Mathlib.Omega.{arith}
+use borrow.Author.Tests.{lt-ltb, le-ltb, ltb-false, eqb-true, eq-eqb, ne-eqb}
+use lib.Dec.{ltb, eqb}
+use lib.ListN.{length, length-drop, drop}
+use lib.Seq.{sets}
+use Rattle.line.specs.Limits.{columnLimit}
+use Rattle.line.specs.Text.{orElse, rowsText, badLine, cdmOf, cdsOf}
+use Rattle.line.proofs.Every.{tested}
+use Rattle.line.proofs.Text.{both}
+use Rattle.job.specs.Outcome.{leaves, areBits}
+use Rattle.job.proofs.Ends.{not-first, then-rest, refused-leaves, made-leaves}
+use Rattle.carry.specs.Carry.{wrongRows, rowsRefusal, textRoom, textRefusal, taken, RowsTaken}
+use Rattle.carry.specs.declared.Taken.{Taken}
+use Rattle.carry.specs.declared.Taken.the-variants as Answer
+use Rattle.carry.proofs.Columns.{text-length, row-length}
+
+-- Of two conditions, neither holds; one that is denied holds.
+no-either : (a b : Bool) → a || b ≡ false → (a ≡ false) × (b ≡ false)
+no-either true b h = absurd (false≢true (sym h))
+no-either false b h = (refl, h)
+
+denied : (a : Bool) → not a ≡ false → a ≡ true
+denied true h = refl
+denied false h = absurd (false≢true (sym h))
+
+-- The first number that is given counts.
+first-counts : (n rest : ℕ) → (n ≡ 0 → ⊥) → n ≡ orElse n rest
+first-counts zero rest h = absurd (h refl)
+first-counts (suc n) rest h = refl
+
+-- Rows that are refused by none of 5, 6, 7.
+pub record Right (cdm cds : List ℕ) : Type 0 where
+  pub short : length cdm ≤ columnLimit
+  pub same : length cdm ≡ length cds
+  pub cdm-bits : areBits cdm ≡ true
+  pub cds-bits : areBits cds ≡ true
+
+module _ (cdm cds : List ℕ) where
+  pub right-rows : wrongRows cdm cds ≡ 0 → Right cdm cds
+  unfolding wrongRows
+  right-rows e =
+      let long = ltb columnLimit (length cdm) || ltb columnLimit (length cds) in
+      let unlike = not (eqb (length cdm) (length cds)) in
+      let bad = not (areBits cdm && areBits cds) in
+      let six = then-rest long 4 (cond unlike 6 (cond bad 7 0)) e in
+      let seven = then-rest unlike 5 (cond bad 7 0) six in
+      let bits = both (areBits cdm) (areBits cds) (denied _ (not-first bad 6 0 seven)) in
+      record {
+        short = ltb-false _ _ (no-either _ _ (not-first long 4 (cond unlike 6 (cond bad 7 0)) e) .0);
+        same = eqb-true _ _ (denied _ (not-first unlike 5 (cond bad 7 0) six));
+        cdm-bits = bits .0;
+        cds-bits = bits .1;
+      }
+
+  pub rows-wrong : (why room : ℕ) → why ≡ wrongRows cdm cds → (why ≡ 0 → ⊥) → why ≡ rowsRefusal cdm cds room
+  unfolding rowsRefusal
+  rows-wrong why room e h = rw (← e) (first-counts why _ h)
+
+  module _ (room : ℕ) (e : wrongRows cdm cds ≡ 0) where
+    pub rows-nine : room < 8 + 4 * length cdm → 9 ≡ rowsRefusal cdm cds room
+    unfolding rowsRefusal
+    rows-nine h = rw (e, text-length cdm cds (right-rows e .same), lt-ltb _ _ h)
+
+    pub rows-none : 8 + 4 * length cdm ≤ room → rowsRefusal cdm cds room ≡ 0
+    unfolding rowsRefusal
+    rows-none h = rw (e, text-length cdm cds (right-rows e .same), le-ltb _ _ h)
+
+-- So many columns that are refused by neither 5 nor 9; 11 is neither of them.
+pub room-enough : (n cdm cds : ℕ) → textRoom n cdm cds ≡ 0 → (n ≤ cdm) × (n ≤ cds)
+unfolding textRoom
+room-enough n cdm cds e =
+    let nine = ltb cdm n || ltb cds n in
+    let rows = no-either _ _ (not-first nine 8 0 (then-rest (ltb columnLimit n) 4 (cond nine 9 0) e)) in
+    (ltb-false _ _ (rows .0), ltb-false _ _ (rows .1))
+
+not-eleven : (n cdm cds : ℕ) → textRoom n cdm cds ≡ 11 → ⊥
+unfolding textRoom
+not-eleven n cdm cds e = from (ltb columnLimit n) (ltb cdm n || ltb cds n) e
+  where
+    from : (a b : Bool) → _≡_ {A = ℕ} (cond a 5 (cond b 9 0)) 11 → ⊥
+    from true b e = omega arith
+    from false true e = omega arith
+    from false false e = omega arith
+
+-- The columns of a text, by its length, in either row.
+pub columns-in : (text : List ℕ) → (length (cdmOf text) ≡ (length text - 8) / 4) × (length (cdsOf text) ≡ (length text - 8) / 4)
+unfolding cdmOf cdsOf
+columns-in text = (
+  row-length 0 (drop 8 text) ∙ ap (λ (n : ℕ). n / 4) (length-drop 8 text),
+  row-length 2 (drop 8 text) ∙ ap (λ (n : ℕ). n / 4) (length-drop 8 text),
+)
+
+-- The ends of text to rows: 11 with its line, 5 or 9, and columns.
+module _ (text cdm cds : List ℕ) where
+  abbrev refusal : ℕ
+  refusal = textRefusal text (length cdm) (length cds)
+
+  refused-rows : (why : ℕ) {answer : Taken} → refusal ≡ why → (why ≡ 0 → ⊥) → answer ≡ taken why (badLine text) (length (cdmOf text))
+      → RowsTaken text cdm cds answer cdm cds
+  refused-rows why e h a =
+      record {
+        answers = rw e a;
+        leaves-cdm = rw e (refused-leaves why (cdmOf text) cdm h);
+        leaves-cds = rw e (refused-leaves why (cdsOf text) cds h);
+      }
+
+  pub taken-bad : (bad : ℕ) → bad ≡ badLine text → (bad ≡ 0 → ⊥) → RowsTaken text cdm cds (Answer.BadLine bad) cdm cds
+  unfolding taken textRefusal
+  taken-bad bad e h =
+      refused-rows 11 (rw (← e, lt-ltb 0 bad (omega arith))) (λ q. omega arith) (ap Answer.BadLine e)
+
+  module _ (good : badLine text ≡ 0) (why : ℕ) (room : why ≡ textRoom ((length text - 8) / 4) (length cdm) (length cds)) where
+    gives-room : refusal ≡ why
+    unfolding textRefusal
+    gives-room = rw (good, columns-in text .0) (sym room)
+
+    pub taken-refused : (why ≡ 0 → ⊥) → RowsTaken text cdm cds (Answer.Refused why) cdm cds
+    unfolding taken
+    taken-refused h =
+        refused-rows why gives-room h
+        (rw (ne-eqb why 0 h, ne-eqb why 11 (λ q. not-eleven _ _ _ (sym room ∙ q))))
+
+    pub taken-columns : why ≡ 0 → (cdm-after cds-after : List ℕ)
+        → (cdm-after ≡ sets cdm 0 (cdmOf text)) × (cds-after ≡ sets cds 0 (cdsOf text))
+        → RowsTaken text cdm cds (Answer.Columns ((length text - 8) / 4)) cdm-after cds-after
+    unfolding taken
+    taken-columns e cdm-after cds-after put =
+        let none : refusal ≡ 0 = gives-room ∙ e in
+        let long = columns-in text in
+        let rows = room-enough _ _ _ (sym room ∙ e) in
+        record {
+          answers = rw (none, long .0);
+          leaves-cdm = put .0 ∙ made-leaves refusal (cdmOf text) cdm none (rw (long .0) (rows .0));
+          leaves-cds = put .1 ∙ made-leaves refusal (cdsOf text) cds none (rw (long .1) (rows .1));
+        }

@@ -1,0 +1,25 @@
+-- `carry::text_room` meets its contract: the definition at the branches' tests. Assumes nothing.
+use borrow.Author.Needs.{needs}
+use Rattle.carry.specs.Carry.{textRoom}
+use Rattle.line.proofs.Rules.{cases}
+use Rattle.carry.proofs.text_room.Statement.{statement}
+use Rattle.carry.proofs.text_room.Tie as tie
+
+returns : tie.Need-returns
+unfolding textRoom
+returns c = search cases
+
+returns-2 : tie.Need-returns-2
+unfolding textRoom
+returns-2 c = search cases
+
+returns-3 : tie.Need-returns-3
+unfolding textRoom
+returns-3 c = search cases
+
+returns-4 : tie.Need-returns-4
+unfolding textRoom
+returns-4 c = search cases
+
+pub text-room-spec : {M : Type 1} → statement M
+text-room-spec = tie.close (tie.spec returns returns-2 returns-3 returns-4)

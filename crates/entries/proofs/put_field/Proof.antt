@@ -1,0 +1,72 @@
+-- `entries::put_field` meets its contract: a TAB, and the digits or `-`. Assumes nothing.
+use mathlib.Core.Path.{_≡_, sym, ap, _∙_}
+use native.Mathlib.Omega.{arith}
+use borrow.Author.Needs.{needs}
+use lib.ListN.{length, length-set}
+use Rattle.entries.proofs.Parts.{field-named, field-unnamed}
+use Rattle.print.proofs.Runs.{renamed, then, one-byte, laid-length}
+use Rattle.entries.proofs.put_field.Statement.{statement}
+use Rattle.entries.proofs.put_field.Tie as tie
+
+slice-write-out : tie.Need-slice-write-out
+slice-write-out c =
+    let a = c .before .before .args in
+    let long = ap length (field-named (a .named) (a .n) (c .if1 .taken)) in
+    search needs
+
+add-put-decimal : tie.Need-add-put-decimal
+add-put-decimal c = search needs
+
+put-decimal-requires : tie.Need-put-decimal-requires
+put-decimal-requires c κs =
+    let named = c .before in
+    let a = named .before .before .args in
+    let long = ap length (field-named (a .named) (a .n) (named .if1 .taken)) in
+    rw length-set (search needs)
+
+slice-aggregate-put-bytes : tie.Need-slice-aggregate-put-bytes
+slice-aggregate-put-bytes c = search needs
+
+put-bytes-requires : tie.Need-put-bytes-requires
+put-bytes-requires c κs =
+    let unnamed = c .before .before in
+    let a = unnamed .before .before .args in
+    let long = ap length (field-unnamed (a .named) (a .n) (unnamed .if1 .left)) in
+    search needs
+
+same-length : tie.Need-same-length
+same-length c =
+    let put = c .before .before in
+    let a = put .before .before .before .before .args in
+    laid-length (then (one-byte (a .out .now) (a .at) 9) (put .put-decimal .ensures))
+
+returns : tie.Need-returns
+returns c =
+    let put = c .before .before in
+    let named = put .before .before in
+    let a = named .before .before .args in
+    renamed (sym (field-named (a .named) (a .n) (named .if1 .taken))) (then (one-byte (a .out .now) (a .at) 9) (put .put-decimal .ensures))
+
+same-length-2 : tie.Need-same-length-2
+same-length-2 c = search needs
+
+returns-2 : tie.Need-returns-2
+returns-2 c =
+    let put = c .before .before in
+    let unnamed = put .before .before .before in
+    let a = unnamed .before .before .args in
+    renamed (sym (field-unnamed (a .named) (a .n) (unnamed .if1 .left))) (put .put-bytes .ensures)
+
+pub put-field-spec : {M : Type 1} → statement M
+put-field-spec =
+    tie.close
+    (tie.spec
+    slice-write-out
+    add-put-decimal
+    put-decimal-requires
+    slice-aggregate-put-bytes
+    put-bytes-requires
+    same-length
+    returns
+    same-length-2
+    returns-2)

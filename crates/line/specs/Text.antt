@@ -1,0 +1,158 @@
+-- Text: rows and lists as text, and when a text or a list's bytes are of the form that paper 01 gives them (refusals 11 and 12).
+-- Every text here is its list of bytes.
+use mathlib.Core.Bool.{Bool, true, false, cond, _&&_, _||_}
+use mathlib.Core.List.{List, [], _∷_, _++_, map}
+use mathlib.Core.Option.{Option, none, some}
+use Prim.Native.Nat.{ℕ, zero, suc, _+_, _/_, _%_}
+use lib.Dec.{ltb, eqb}
+use lib.ListN.{length, drop, getD}
+use Rattle.line.specs.Entries.{bytes, Line, Entry, table, kinds, numbered, fromBytes}
+
+-- "TAB" and "LF".
+abbrev pub tab : ℕ
+tab = 9
+
+abbrev pub feed : ℕ
+feed = 10
+
+-- "digit": the digit of a number below ten.
+abbrev pub digit : ℕ → ℕ
+digit n = 48 + n
+
+-- "header `cdm` TAB `cds` LF".
+abbrev pub rowsHeader : List ℕ
+rowsHeader = bytes "cdm" ++ tab ∷ bytes "cds" ++ feed ∷ []
+
+-- "then digit TAB digit LF for each column".
+abbrev pub columnLine : (m s : ℕ) → List ℕ
+columnLine m s = digit m ∷ tab ∷ digit s ∷ feed ∷ []
+
+-- "One column a line".
+unfoldable pub columnLines : (cdm cds : List ℕ) → List ℕ
+columnLines [] ss = []
+columnLines (m ∷ ms) [] = []
+columnLines (m ∷ ms) (s ∷ ss) = columnLine m s ++ columnLines ms ss
+
+-- Two rows as text.
+unfoldable pub rowsText : (cdm cds : List ℕ) → List ℕ
+rowsText cdm cds = rowsHeader ++ columnLines cdm cds
+
+-- What a byte of a line has to be: this byte, or a digit 0 or 1.
+pub data Form : Type 0 where
+  exactly : ℕ → Form
+  bit : Form
+
+abbrev pub has : Form → ℕ → Bool
+has (exactly x) b = eqb b x
+has bit b = eqb b (digit 0) || eqb b (digit 1)
+
+-- The forms of the two kinds of line.
+abbrev pub headerForm : List Form
+headerForm = map exactly rowsHeader
+
+abbrev pub columnForm : List Form
+columnForm = bit ∷ exactly tab ∷ bit ∷ exactly feed ∷ []
+
+-- A text begins with a whole line of the form; one that stops early does not.
+unfoldable pub begins : List Form → (text : List ℕ) → Bool
+begins [] text = true
+begins (f ∷ fs) [] = false
+begins (f ∷ fs) (b ∷ bs) = has f b && begins fs bs
+
+-- Refusal 11: "text not of the form above; the first bad line". What is told of the line that a text begins with: 0 where it has its
+-- form, else its number, with so many lines before it. Whatever else is to be told of a bad line is told here; the walk below only
+-- hands it on.
+unfoldable pub fault : List Form → (before : ℕ) → (text : List ℕ) → ℕ
+fault form before text = cond (begins form text) 0 (suc before)
+
+-- The first fault, of a line or of what comes behind it.
+abbrev pub orElse : (fault rest : ℕ) → ℕ
+orElse zero rest = rest
+orElse (suc n) rest = suc n
+
+-- .. of column lines with so many lines before them. Nothing left is no line; a line cut short is one.
+unfoldable pub firstBad : (before : ℕ) → (text : List ℕ) → ℕ
+firstBad before [] = 0
+firstBad before (a ∷ []) = fault columnForm before (a ∷ [])
+firstBad before (a ∷ b ∷ []) = fault columnForm before (a ∷ b ∷ [])
+firstBad before (a ∷ b ∷ c ∷ []) = fault columnForm before (a ∷ b ∷ c ∷ [])
+firstBad before (a ∷ b ∷ c ∷ d ∷ text) =
+    orElse (fault columnForm before (a ∷ b ∷ c ∷ d ∷ [])) (firstBad (before + 1) text)
+
+-- Numbers of refusal: "11 also a line, counted from 1": the header is line 1, also of an empty text; 0 where no line is bad.
+unfoldable pub badLine : (text : List ℕ) → ℕ
+badLine text = orElse (fault headerForm 0 text) (firstBad 1 (drop (length rowsHeader) text))
+
+-- The digits at a place of each column line, as bits: the row of that place.
+unfoldable pub rowIn : (place : ℕ) → (text : List ℕ) → List ℕ
+rowIn place [] = []
+rowIn place (a ∷ []) = []
+rowIn place (a ∷ b ∷ []) = []
+rowIn place (a ∷ b ∷ c ∷ []) = []
+rowIn place (a ∷ b ∷ c ∷ d ∷ text) = getD (a ∷ b ∷ c ∷ d ∷ []) place 0 % 2 ∷ rowIn place text
+
+-- The rows of a text: of a column line's digits the first is the CDM bit, the one behind the TAB the CDS bit.
+unfoldable pub cdmOf : (text : List ℕ) → List ℕ
+cdmOf text = rowIn 0 (drop (length rowsHeader) text)
+
+unfoldable pub cdsOf : (text : List ℕ) → List ℕ
+cdsOf text = rowIn 2 (drop (length rowsHeader) text)
+
+-- "decimal": the digits of n, with fuel for as many.
+unfoldable pub digitsIn : (fuel n : ℕ) → List ℕ
+digitsIn zero n = []
+digitsIn (suc fuel) n = cond (ltb n 10) (digit n ∷ []) (digitsIn fuel (n / 10) ++ digit (n % 10) ∷ [])
+
+-- .. which n + 1 always is.
+unfoldable pub decimal : ℕ → List ℕ
+decimal n = digitsIn (suc n) n
+
+-- "header `event` TAB `column` TAB `id` TAB `address` TAB `value`".
+abbrev pub listHeader : List ℕ
+listHeader =
+    bytes "event" ++ tab ∷ bytes "column" ++ tab ∷ bytes "id" ++ tab ∷ bytes "address" ++ tab ∷ bytes "value" ++ feed ∷ []
+
+-- A field behind its TAB: "decimal", "`-` for a field the kind doesn't name".
+unfoldable pub field : (named : Bool) → ℕ → List ℕ
+field true n = tab ∷ decimal n
+field false n = tab ∷ bytes "-"
+
+-- "one entry a line, decimal, the kind by name": a kind's line of the table, and the fields.
+unfoldable pub entryLine : Line → (column id address value : ℕ) → List ℕ
+entryLine kind column id address value =
+    kind .name ++ field true column ++ field (kind .has-id) id ++ field (kind .has-address) address
+    ++ field (kind .has-value) value ++ feed ∷ []
+
+-- The line of six bytes that may be an entry.
+abbrev pub lineOf : Option Entry → List ℕ
+lineOf none = []
+lineOf (some e) = entryLine (table (e .kind)) (e .column) (e .id) (e .address) (e .value)
+
+-- The lines of a list's bytes, six by six.
+unfoldable pub entryLines : (list : List ℕ) → List ℕ
+entryLines [] = []
+entryLines (k ∷ []) = []
+entryLines (k ∷ h ∷ []) = []
+entryLines (k ∷ h ∷ l ∷ []) = []
+entryLines (k ∷ h ∷ l ∷ i ∷ []) = []
+entryLines (k ∷ h ∷ l ∷ i ∷ a ∷ []) = []
+entryLines (k ∷ h ∷ l ∷ i ∷ a ∷ v ∷ list) = lineOf (fromBytes (k ∷ h ∷ l ∷ i ∷ a ∷ v ∷ [])) ++ entryLines list
+
+-- "A list is printed as header .. then one entry a line".
+unfoldable pub listText : (list : List ℕ) → List ℕ
+listText list = listHeader ++ entryLines list
+
+-- Six bytes are an entry.
+abbrev pub isEntry : Option Entry → Bool
+isEntry none = false
+isEntry (some e) = true
+
+-- Refusal 12: "list length no multiple of 6, or a kind outside 1 to 16".
+unfoldable pub isList : (list : List ℕ) → Bool
+isList [] = true
+isList (k ∷ []) = false
+isList (k ∷ h ∷ []) = false
+isList (k ∷ h ∷ l ∷ []) = false
+isList (k ∷ h ∷ l ∷ i ∷ []) = false
+isList (k ∷ h ∷ l ∷ i ∷ a ∷ []) = false
+isList (k ∷ h ∷ l ∷ i ∷ a ∷ v ∷ list) = isEntry (fromBytes (k ∷ h ∷ l ∷ i ∷ a ∷ v ∷ [])) && isList list

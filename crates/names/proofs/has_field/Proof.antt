@@ -1,0 +1,28 @@
+-- `names::has_field` meets its contract: the table is the definition tabulated, which antt computes, entry for entry. Assumes nothing.
+use borrow.Author.Needs.{needs}
+use Rattle.line.specs.Entries.{numbered}
+use Rattle.names.proofs.Numbers.{field-at}
+use Rattle.names.specs.Names.{kindLine, names}
+use Rattle.names.proofs.has_field.Statement.{statement}
+use Rattle.names.proofs.has_field.Tie as tie
+
+slice-aggregate-fields : tie.Need-slice-aggregate-fields
+slice-aggregate-fields c = search needs
+
+mul-result : tie.Need-mul-result
+mul-result c = search needs
+
+add-result : tie.Need-add-result
+add-result c = search needs
+
+shared-slice-read-result : tie.Need-shared-slice-read-result
+shared-slice-read-result c = search needs
+
+returns : tie.Need-returns
+unfolding names kindLine numbered
+returns c = let a = c .before .before .args in field-at (a .kind) (a .field) (search needs) (search needs)
+
+pub has-field-spec : {M : Type 1} → statement M
+has-field-spec =
+    tie.close
+    (tie.spec slice-aggregate-fields mul-result add-result shared-slice-read-result returns)
