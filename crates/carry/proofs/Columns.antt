@@ -12,11 +12,11 @@ use lib.ListN.{length, length-append, length-drop, drop, drop-of-length-le, getD
 use lib.Seq.{sets, drop-cons}
 use Rattle.line.specs.Text.{columnLine, columnLines, rowsText, rowIn, cdmOf, cdsOf}
 use Rattle.line.proofs.Text.{both, four}
-use Rattle.job.specs.Outcome.{areBits}
+use Rattle.job.specs.Outcome.{noneAbove, areBits}
 
 -- Every byte of a row of bits is 0 or 1.
 pub bit-at : (row : List ℕ) (k : ℕ) → areBits row ≡ true → k < length row → getD row k 0 ≤ 1
-unfolding areBits
+unfolding areBits noneAbove
 bit-at [] k e h = absurd (omega arith)
 bit-at (b ∷ row) zero e h = leb-true b 1 (both (leb b 1) (areBits row) e .0)
 bit-at (b ∷ row) (suc k) e h = bit-at row k (both (leb b 1) (areBits row) e .1) (omega arith)
