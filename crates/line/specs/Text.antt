@@ -8,10 +8,11 @@ use lib.Dec.{ltb, eqb}
 use lib.ListN.{length, drop, getD}
 use Rattle.line.specs.Entries.{bytes, Line, Entry, table, kinds, numbered, fromBytes}
 
--- "TAB" and "LF".
+-- "TAB".
 abbrev pub tab : ℕ
 tab = 9
 
+-- "LF".
 abbrev pub feed : ℕ
 feed = 10
 
@@ -42,14 +43,16 @@ pub data Form : Type 0 where
   exactly : ℕ → Form
   bit : Form
 
+-- A byte is of a form.
 abbrev pub has : Form → ℕ → Bool
 has (exactly x) b = eqb b x
 has bit b = eqb b (digit 0) || eqb b (digit 1)
 
--- The forms of the two kinds of line.
+-- The form of the line of names ..
 abbrev pub headerForm : List Form
 headerForm = map exactly rowsHeader
 
+-- .. and of a column's line.
 abbrev pub columnForm : List Form
 columnForm = bit ∷ exactly tab ∷ bit ∷ exactly feed ∷ []
 
@@ -91,10 +94,11 @@ rowIn place (a ∷ b ∷ []) = []
 rowIn place (a ∷ b ∷ c ∷ []) = []
 rowIn place (a ∷ b ∷ c ∷ d ∷ text) = getD (a ∷ b ∷ c ∷ d ∷ []) place 0 % 2 ∷ rowIn place text
 
--- The rows of a text: of a column line's digits the first is the CDM bit, the one behind the TAB the CDS bit.
+-- The CDM row of a text: the first digit of each column line ..
 unfoldable pub cdmOf : (text : List ℕ) → List ℕ
 cdmOf text = rowIn 0 (drop (length rowsHeader) text)
 
+-- .. and its CDS row: the digit behind the TAB.
 unfoldable pub cdsOf : (text : List ℕ) → List ℕ
 cdsOf text = rowIn 2 (drop (length rowsHeader) text)
 

@@ -11,6 +11,7 @@ abbrev pub lineOf : Option Kind → Line
 lineOf none = line 0 "" false false false
 lineOf (some k) = table k
 
+-- A number is some kind's.
 abbrev pub isOne : Option Kind → Bool
 isOne none = false
 isOne (some k) = true
@@ -19,6 +20,7 @@ isOne (some k) = true
 unfoldable pub isKind : ℕ → Bool
 isKind n = isOne (numbered n kinds)
 
+-- The line of a number.
 unfoldable pub kindLine : ℕ → Line
 kindLine n = lineOf (numbered n kinds)
 

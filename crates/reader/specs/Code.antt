@@ -17,10 +17,11 @@ use Rattle.reader.specs.declared.Reader.{Reader}
 use Rattle.reader.specs.declared.Entry.{Entry}
 use Rattle.reader.specs.declared.Stepped.{Stepped}
 
--- The fields as line's reader has them; the bounds hold of every value that a step stores.
+-- The ID as line's reader has it; the bound holds of every value that a step stores ..
 abbrev pub idOf : Body → ℕ
 idOf b = b .id % idCount
 
+-- .. and the address.
 abbrev pub addressOf : Body → ℕ
 addressOf b = b .address % registerCount
 
@@ -28,9 +29,11 @@ addressOf b = b .address % registerCount
 abbrev pub lockBound : ℕ
 lockBound = 16
 
+-- The lock value.
 abbrev pub lockOf : Body → ℕ
 lockOf b = b .count % lockBound
 
+-- The header column of the locks that a body is at.
 abbrev pub lockColumn : Body → ℕ
 lockColumn b = lockFirst + min (b .place) idCount
 
@@ -50,6 +53,7 @@ alive Reads = true
 alive Writes = true
 alive AskP = true
 
+-- The phase that a kind is with its numbers ..
 abbrev pub phaseBy : Kind → Body → Phase
 phaseBy Power b = deaf
 phaseBy Rest b = deaf
@@ -65,6 +69,7 @@ phaseBy Reads b = reads (idOf b) (addressOf b) (b .count) (b .place) (b .word)
 phaseBy Writes b = writes (idOf b) (addressOf b) (b .count) (b .place) (b .word) (bitOf (b .answered))
 phaseBy AskP b = askP (bitOf (b .asked)) (idOf b) (addressOf b) (b .count)
 
+-- .. the state with its zeros ..
 abbrev pub stateBy : Kind → ℕ → Body → Timed Phase
 stateBy Power z b = power z
 stateBy Rest z b = rest
@@ -80,6 +85,7 @@ stateBy Reads z b = frame z (phaseBy Reads b)
 stateBy Writes z b = frame z (phaseBy Writes b)
 stateBy AskP z b = frame z (phaseBy AskP b)
 
+-- .. and the state of a reader.
 unfoldable pub stateOf : Reader → Timed Phase
 stateOf r = stateBy (r .kind) (r .zeros) (r .body)
 
@@ -87,12 +93,15 @@ stateOf r = stateBy (r .kind) (r .zeros) (r .body)
 abbrev pub said : (kind id address value : ℕ) → Entry
 said kind id address value = record { kind = kind; id = id; address = address; value = value }
 
+-- No entry.
 abbrev pub nothing : Entry
 nothing = said 0 0 0 0
 
+-- The entry of a frame's end.
 abbrev pub ending : Entry
 ending = said (line.number line.Kind.end) 0 0 0
 
+-- An entry of line's, or none, as the code has it.
 abbrev pub entryOf : Option line.Entry → Entry
 entryOf none = nothing
 entryOf (some e) = said (line.number (e .kind)) (e .id) (e .address) (e .value)
@@ -101,30 +110,37 @@ entryOf (some e) = said (line.number (e .kind)) (e .id) (e .address) (e .value)
 abbrev pub small : Entry → Type 0
 small e = (e .kind < 256) × (e .id < 256) × (e .address < 256) × (e .value < 256)
 
--- What a phase makes of a column, and what a step makes of a state, with the entry as the code has it.
+-- What a phase makes of a column, with the entry as the code has it ..
 pub record Seen : Type 0 where
   pub next : Phase
   pub entry : Entry
 
+-- .. and what a step makes of a state.
 pub record Moved : Type 0 where
   pub state : Timed Phase
   pub entry : Entry
 
+-- What was seen, of its parts ..
 abbrev pub seenBy : Phase → Entry → Seen
 seenBy p e = record { next = p; entry = e }
 
+-- .. and of line's look.
 abbrev pub seen : Look → Seen
 seen l = seenBy (l .next) (entryOf (l .says))
 
+-- The move inside a frame ..
 unfoldable pub told : (zeros : ℕ) → Seen → Moved
 told zeros s = record { state = frame zeros (s .next); entry = s .entry }
 
+-- .. the move to rest ..
 unfoldable pub rested : Entry → Moved
 rested e = record { state = rest; entry = e }
 
+-- .. the move of line's step ..
 unfoldable pub moved : Step → Moved
 moved s = record { state = s .state; entry = entryOf (s .says) }
 
+-- .. and the move that the code made.
 unfoldable pub after : Stepped → Moved
 after r = record { state = stateOf (r .next); entry = r .entry }
 
@@ -133,13 +149,16 @@ pub record Meets (r : Stepped) (promised : ℕ → Moved) : Type 0 where
   pub meets : (c : ℕ) → after r ≡ promised c
   pub bytes : small (r .entry)
 
+-- The moves that the functions of a phase promise: of line's look ..
 abbrev pub shown : ℕ → Phase → (m x : Bool) → ℕ → Moved
 shown zeros p m x c = told zeros (seen (look c p m x))
 
+-- .. of its answer ..
 abbrev pub answers : ℕ → Body → (m x : Bool) → ℕ → Moved
 answers zeros b m x c =
     told zeros (seen (answer c (idOf b) (addressOf b) (bitOf (b .asked)) (bitOf (b .answered)) m x))
 
+-- .. and of its silence.
 abbrev pub silences : ℕ → Body → (m x : Bool) → ℕ → Moved
 silences zeros b m x c = told zeros (seen (silence c (idOf b) (addressOf b) (bitOf (b .answered)) x))
 
@@ -179,5 +198,6 @@ gone AskP z b m x c = shown z (phaseBy AskP b) m x c
 abbrev pub Counted : (zeros : ℕ) → (m : Bool) → (r : ℕ) → Type 0
 Counted zeros m r = timer zeros m ≡ cond (ltb r restZeros) (some r) none
 
+-- What step promises: line's step.
 abbrev pub Steps : Timed Phase → (m x : Bool) → Stepped → Type 0
 Steps s m x r = Meets r (λ c. moved (step c s m x))

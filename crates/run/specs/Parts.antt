@@ -25,9 +25,11 @@ leftBy s [] bs = s
 leftBy s (m ∷ ms) [] = s
 leftBy s (m ∷ ms) (b ∷ bs) = leftBy (line.step s m b .slave) ms bs
 
+-- A slave's memory, of its registers and rights ..
 abbrev pub memoryBy : (registers rights : List ℕ) → Memory
 memoryBy registers rights = record { registers = registers; rights = rights }
 
+-- .. and that slave at power-on.
 abbrev pub newBy : (registers rights : List ℕ) → line.Slave
 newBy registers rights = line.slave (memoryBy registers rights) powerOn
 

@@ -19,6 +19,7 @@ memoriesOf (suc n) registers rights =
     record { registers = take registerCount registers; rights = take registerCount rights }
     ∷ memoriesOf n (drop registerCount registers) (drop registerCount rights)
 
+-- .. and back: the registers of all slaves in one buffer.
 unfoldable pub registersOf : List Memory → List ℕ
 registersOf [] = []
 registersOf (k ∷ ks) = k .registers ++ registersOf ks

@@ -21,9 +21,11 @@ use Rattle.slave.specs.declared.Seen.{Seen}
 use Rattle.slave.specs.declared.Turn.{Turn}
 use Rattle.slave.specs.declared.Lock.{Lock}
 
+-- An ID, where the number is one; any other number stands for none.
 abbrev pub numberOf : ℕ → Option ℕ
 numberOf n = cond (ltb n idCount) (some n) none
 
+-- The address that a body is at.
 abbrev pub placeBy : Body → ℕ
 placeBy b = b .address % registerCount
 
@@ -31,6 +33,7 @@ placeBy b = b .address % registerCount
 abbrev pub before : ℕ → ℕ
 before place = (place + (registerCount - 1)) % registerCount
 
+-- The address behind an address, round the end.
 abbrev pub nextAddress : ℕ → ℕ
 nextAddress address = (address % registerCount + 1) % registerCount
 
@@ -42,6 +45,7 @@ nextColumn column = min column headerColumns + 1
 abbrev pub counts : ℕ
 counts = 16
 
+-- The bits of a byte that are still to come.
 abbrev pub leftOf : Body → ℕ
 leftOf b = b .left % counts
 
@@ -65,6 +69,7 @@ timed z (power _) = power z
 timed z rest = rest
 timed z (frame _ p) = frame z p
 
+-- .. together.
 abbrev pub stateBy : Kind → (zeros : ℕ) → Body → Timed line.Phase
 stateBy kind zeros b = timed zeros (formBy kind b)
 
@@ -75,12 +80,15 @@ judgedAt rest true = still (frame 0 line.begun)
 judgedAt rest false = still rest
 judgedAt (frame z p) m = meant z p
 
+-- What a slave of the code stands for ..
 abbrev pub stateOf : Slave → Timed line.Phase
 stateOf s = stateBy (s .kind) (s .zeros) (s .body)
 
+-- .. and the address that it is at.
 abbrev pub placeOf : Slave → ℕ
 placeOf s = placeBy (s .body)
 
+-- A turn of its parts.
 abbrev pub turned : Kind → (zeros : ℕ) → Body → (sent : Bool) → (byte : ℕ) → Turn
 turned kind zeros b sent byte = record { next = record { kind = kind; zeros = zeros; body = b }; sent = sent; byte = byte }
 
@@ -103,9 +111,11 @@ pub record Steps (s : Slave) (seen : Seen) (r : Turn) : Type 0 where
   pub over : (k : Memory) → Shows k (placeOf s) seen
       → line.step (line.slave k (stateOf s)) (seen .master) (seen .far) ≡ stepOf k (placeOf s) r
 
+-- What the code's lock stands for ..
 abbrev pub lockOf : Lock → line.Lock
 lockOf l = record { number = numberOf (l .number); sent = l .sent }
 
+-- .. and the lock that a column makes.
 unfoldable pub lockedAs : (column number : ℕ) → Bool → line.Lock
 lockedAs column number far = line.lock (min column headerColumns) (numberOf number) far
 
@@ -114,6 +124,7 @@ unfoldable pub CalledAs : (word number : ℕ) → Bool → Type 0
 CalledAs word number r =
     line.called (header word) (numberOf number) ≡ cond r (line.askR (word / 2 ^ checkWidth % registerCount)) line.deaf
 
+-- A P is followed by a further byte: the last was good, the address is not the last, the right allows it, and bytes are left.
 unfoldable pub goesOn : Body → (right : ℕ) → Bool
 goesOn b right =
     b .good && (ltb (before (placeBy b) + 1) registerCount && bit (num (b .write)) right && ltb (b .nth) byteLimit)
