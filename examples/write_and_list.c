@@ -1,0 +1,66 @@
+/* A master writes 5B to register 44 (hexadecimal) of the only slave of a chain; what was recorded is read back as a list. Then a call
+ * that is refused. Every answer is checked: the program ends with 1 where one is not as expected. */
+#include "../include/biss.h"
+
+#include <stdio.h>
+#include <stdlib.h>
+#include <string.h>
+
+static void expect(int holds, const char *what) {
+    if (!holds) {
+        fprintf(stderr, "not so: %s\n", what);
+        exit(1);
+    }
+}
+
+/* Buffers from the heap, exactly as long as is said, so that a memory checker sees every byte beside them. */
+static uint8_t *lent(size_t length, uint8_t filled) {
+    uint8_t *buffer = malloc(length);
+    expect(buffer != NULL, "there is memory");
+    memset(buffer, filled, length);
+    return buffer;
+}
+
+static void print_list(const uint8_t *list, size_t entries) {
+    for (size_t i = 0; i < entries; i++) {
+        const uint8_t *e = list + 6 * i;
+        printf("kind %u, column %u, id %u, address %u, value %u\n", e[0], 256u * e[1] + e[2], e[3], e[4], e[5]);
+    }
+}
+
+/* Two entries for one good write: the locks, and the byte written. */
+static void list_write(const uint8_t *cdm, const uint8_t *cds, size_t columns) {
+    uint8_t *list = lent(12, 0);
+    expect(biss_read(cdm, columns, cds, columns, 0, list, 12) == 2, "the list has two entries");
+    expect(list[6] == 11 && list[10] == 0x44 && list[11] == 0x5B, "the second is the write");
+    print_list(list, 2);
+    expect(biss_read(cdm, columns, cds, columns, 1, list, 12) == 0, "a reader let in one column later lists nothing");
+    free(list);
+}
+
+/* A right above 3, the last of the chain's: refusal 4, and nothing lent has changed. */
+static void refused_run(const uint8_t *cdm, size_t columns, uint8_t *registers, uint8_t *rights) {
+    uint8_t *cds = lent(columns, 7);
+    rights[127] = 4;
+    uint64_t answer = biss_run(1, rights, 128, registers, 128, cdm, columns, cds, columns);
+    expect(biss_is_refused(answer) && biss_refusal(answer) == 4, "a right above 3 is refusal 4");
+    expect(cds[0] == 7 && cds[columns - 1] == 7 && registers[0x44] == 0x5B, "a refused call changes nothing");
+    printf("a right above 3: refusal %u\n", biss_refusal(answer));
+    free(cds);
+}
+
+int main(void) {
+    const uint8_t byte = 0x5B;
+    uint8_t *row = lent(4096, 0);
+    uint64_t columns = biss_build_write(0, 0x44, &byte, 1, row, 4096);
+    expect(!biss_is_refused(columns), "the write is built");
+    uint8_t *cdm = lent(columns, 0), *cds = lent(columns, 0), *registers = lent(128, 0), *rights = lent(128, 3);
+    expect(biss_build_write(0, 0x44, &byte, 1, cdm, columns) == columns, "it fits where it just fits");
+    expect(biss_run(1, rights, 128, registers, 128, cdm, columns, cds, columns) == columns, "the chain answers every column");
+    expect(registers[0x44] == 0x5B, "the register holds what was written");
+    list_write(cdm, cds, columns);
+    refused_run(cdm, columns, registers, rights);
+    expect(biss_run(0, NULL, 0, NULL, 0, cdm, columns, cds, columns) == columns, "a chain of no slaves is a chain");
+    free(row), free(cdm), free(cds), free(registers), free(rights);
+    return 0;
+}
