@@ -57,6 +57,12 @@ module _ (cdm cds : List ℕ) where
         cds-bits = bits .1;
       }
 
+  -- Rows of one length that is not over the limit are refused by their bytes alone.
+  pub by-bytes : length cdm ≤ columnLimit → length cds ≤ columnLimit → length cdm ≡ length cds
+      → wrongRows cdm cds ≡ cond (not (areBits cdm && areBits cds)) 7 0
+  unfolding wrongRows
+  by-bytes m s e = rw (le-ltb columnLimit (length cdm) m, le-ltb columnLimit (length cds) s, eq-eqb (length cdm) (length cds) e)
+
   pub rows-wrong : (why room : ℕ) → why ≡ wrongRows cdm cds → (why ≡ 0 → ⊥) → why ≡ rowsRefusal cdm cds room
   unfolding rowsRefusal
   rows-wrong why room e h = rw (← e) (first-counts why _ h)
