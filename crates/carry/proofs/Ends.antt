@@ -9,10 +9,9 @@ use lib.Dec.{ltb, eqb}
 use lib.ListN.{length, length-drop, drop}
 use lib.Seq.{sets}
 use Rattle.line.specs.Limits.{columnLimit}
-use Rattle.line.specs.Text.{orElse, rowsText, badLine, cdmOf, cdsOf}
-use Rattle.line.proofs.Every.{tested}
+use Rattle.line.specs.Text.{orElse, badLine, cdmOf, cdsOf}
 use Rattle.line.proofs.Text.{both}
-use Rattle.job.specs.Outcome.{leaves, areBits}
+use Rattle.job.specs.Outcome.{areBits}
 use Rattle.job.proofs.Ends.{not-first, then-rest, refused-leaves, made-leaves}
 use Rattle.carry.specs.Carry.{wrongRows, rowsRefusal, textRoom, textRefusal, taken, RowsTaken}
 use Rattle.carry.specs.declared.Taken.{Taken}
