@@ -1,16 +1,15 @@
 -- Rows and their text, column by column: what is left of each at a column, and how long it is. Assumes nothing.
-use mathlib.Core.Path.{_≡_, refl, sym, ap, _∙_}
-use mathlib.Core.Bool.{Bool, true, false, _&&_}
+use mathlib.Core.Path.{_≡_, refl}
+use mathlib.Core.Bool.{true}
 use mathlib.Core.List.{List, [], _∷_, _++_}
 use Prim.Native.Nat.{ℕ, zero, suc, _+_, _-_, _*_, _/_, _%_, _≤_, _<_}
-use native.Mathlib.Nat.{add-zero}
 use native.Mathlib.Numerals.{add-one}
 use native.Mathlib.Omega.{arith}
 use borrow.Author.Tests.{leb-true}
 use lib.Dec.{leb}
-use lib.ListN.{length, length-append, length-drop, drop, drop-of-length-le, getD, set}
+use lib.ListN.{length, length-drop, drop, drop-of-length-le, getD, set}
 use lib.Seq.{sets, drop-cons}
-use Rattle.line.specs.Text.{columnLine, columnLines, rowsText, rowIn, cdmOf, cdsOf}
+use Rattle.line.specs.Text.{columnLine, columnLines, rowsText, rowIn}
 use Rattle.line.proofs.Text.{both, four}
 use Rattle.job.specs.Outcome.{noneAbove, areBits}
 

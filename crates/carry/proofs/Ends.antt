@@ -9,10 +9,9 @@ use lib.Dec.{ltb, eqb}
 use lib.ListN.{length, length-drop, drop}
 use lib.Seq.{sets}
 use Rattle.line.specs.Limits.{columnLimit}
-use Rattle.line.specs.Text.{orElse, rowsText, badLine, cdmOf, cdsOf}
-use Rattle.line.proofs.Every.{tested}
+use Rattle.line.specs.Text.{orElse, badLine, cdmOf, cdsOf}
 use Rattle.line.proofs.Text.{both}
-use Rattle.job.specs.Outcome.{leaves, areBits}
+use Rattle.job.specs.Outcome.{areBits}
 use Rattle.job.proofs.Ends.{not-first, then-rest, refused-leaves, made-leaves}
 use Rattle.carry.specs.Carry.{wrongRows, rowsRefusal, textRoom, textRefusal, taken, RowsTaken}
 use Rattle.carry.specs.declared.Taken.{Taken}
@@ -56,6 +55,12 @@ module _ (cdm cds : List ℕ) where
         cdm-bits = bits .0;
         cds-bits = bits .1;
       }
+
+  -- Rows of one length that is not over the limit are refused by their bytes alone.
+  pub by-bytes : length cdm ≤ columnLimit → length cds ≤ columnLimit → length cdm ≡ length cds
+      → wrongRows cdm cds ≡ cond (not (areBits cdm && areBits cds)) 7 0
+  unfolding wrongRows
+  by-bytes m s e = rw (le-ltb columnLimit (length cdm) m, le-ltb columnLimit (length cds) s, eq-eqb (length cdm) (length cds) e)
 
   pub rows-wrong : (why room : ℕ) → why ≡ wrongRows cdm cds → (why ≡ 0 → ⊥) → why ≡ rowsRefusal cdm cds room
   unfolding rowsRefusal

@@ -1,16 +1,15 @@
 -- A text of rows taken byte by byte and line by line, from a place on. Assumes nothing.
-use mathlib.Core.Path.{_≡_, refl, sym, ap, _∙_}
+use mathlib.Core.Path.{_≡_}
 use mathlib.Core.Bool.{Bool, true, false}
 use mathlib.Core.List.{List, [], _∷_, map}
-use Prim.Native.Nat.{ℕ, zero, suc, _+_, _-_, _≤_, _<_}
+use Prim.Native.Nat.{ℕ, suc, _+_, _-_, _≤_, _<_}
 use native.Mathlib.Numerals.{add-one}
-use native.Mathlib.Nat.{add-suc, suc-add}
+use native.Mathlib.Nat.{add-suc}
 use native.Mathlib.Omega.{arith}
 use borrow.Author.Tests.{eq-eqb, ne-eqb}
-use lib.Dec.{eqb}
 use lib.ListN.{length, drop, getD, length-drop, length-map, drop-of-length-le}
 use lib.Seq.{drop-cons, drop-drop}
-use Rattle.line.specs.Text.{Form, exactly, columnForm, begins, fault, orElse, firstBad, badLine, headerForm}
+use Rattle.line.specs.Text.{exactly, columnForm, begins, fault, firstBad, badLine, headerForm}
 use Rattle.line.proofs.Every.{tested}
 use Rattle.line.proofs.Text.{four, begins-long}
 

@@ -1,15 +1,15 @@
 -- A list's bytes entry by entry, from a place on: whether they are a list, and their lines; and a list's refusal. Assumes nothing.
 use mathlib.Core.Path.{_≡_, refl, sym, ap, _∙_}
-use mathlib.Core.Bool.{Bool, true, false, _&&_, false≢true}
+use mathlib.Core.Bool.{true, false, _&&_, false≢true}
 use mathlib.Core.List.{List, [], _∷_, _++_}
 use mathlib.Core.Option.{Option, none, some}
-use Prim.Native.Nat.{ℕ, zero, suc, _+_, _-_, _*_, _≤_, _<_}
+use Prim.Native.Nat.{ℕ, suc, _+_, _-_, _≤_, _<_}
 use native.Mathlib.Omega.{arith}
 use borrow.Author.Tests.{lt-ltb, le-ltb, ltb-true, ltb-false, eqb-true, eqb-false, eq-eqb, ne-eqb}
 use lib.Dec.{ltb, eqb}
 use lib.ListN.{length, length-append, length-drop, drop, getD}
 use lib.Seq.{drop-cons}
-use Rattle.line.specs.Entries.{Kind, table, kinds, numbered, entryOf, fromBytes}
+use Rattle.line.specs.Entries.{Kind, kinds, numbered, entryOf, fromBytes}
 use Rattle.line.specs.Text.{entryLine, lineOf, entryLines, listText, isEntry, isList}
 use Rattle.line.proofs.Every.{tested}
 use Rattle.line.proofs.Text.{both, four}

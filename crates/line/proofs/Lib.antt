@@ -6,6 +6,7 @@ pub mod Division
 pub mod Words
 pub mod Codec
 pub mod Text
+pub mod Printed
 pub mod Channels
 pub mod Rest
 pub mod Dress

@@ -6,7 +6,7 @@ use mathlib.Core.Option.{Option, none, some}
 use Prim.Native.Nat.{ℕ, zero, suc, _+_, _/_, _%_}
 use lib.Dec.{ltb, eqb}
 use lib.ListN.{length, drop, getD}
-use Rattle.line.specs.Entries.{bytes, Line, Entry, table, kinds, numbered, fromBytes}
+use Rattle.line.specs.Entries.{bytes, Line, Entry, table, fromBytes}
 
 -- "TAB".
 abbrev pub tab : ℕ

@@ -34,6 +34,11 @@ one-byte l at v = record { behind = refl; laid = refl }
 pub laid-length : {vs l l′ : List ℕ} {at r : ℕ} → Laid vs at l r l′ → length l′ ≡ length l
 laid-length {vs} {l} {l′} {at} {r} h = ap length (h .laid) ∙ length-sets l at vs
 
+-- Room for a part behind what is laid, where there was room for both.
+pub room-behind : {done lent after : List ℕ} {at p : ℕ} → Laid done at lent p after → (part : List ℕ) → at + length (done ++ part) ≤ length lent
+    → p + length part ≤ length after
+room-behind {done} put part h = omega (arith, put .behind, laid-length put, length-append done part)
+
 -- The bytes that are left, laid from p on: one more, or none.
 module _ (out bytes : List ℕ) (p j : ℕ) where
   pub byte-laid : j < length bytes → sets (set out p (getD bytes j 0)) (p + 1) (drop (j + 1) bytes) ≡ sets out p (drop j bytes)

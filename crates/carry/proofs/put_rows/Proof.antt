@@ -1,8 +1,7 @@
 -- `carry::put_rows` meets its contract. The loop's invariant: the digits that are left, laid on the rows of now, are all the digits laid
 -- on the first rows. Assumes nothing.
-use mathlib.Core.Path.{_≡_, sym, ap, _∙_}
+use mathlib.Core.Path.{_≡_, sym, _∙_}
 use Prim.Native.Nat.{_+_, _-_, _*_, _≤_}
-use native.Mathlib.Omega.{arith}
 use borrow.Author.Needs.{needs}
 use lib.ListN.{length, length-set, drop}
 use lib.Seq.{sets}

@@ -1,5 +1,5 @@
 -- `carry::rows_to_text` meets its contract: the header, and then the columns' lines. Assumes nothing.
-use mathlib.Core.Path.{_≡_, sym, _∙_}
+use mathlib.Core.Path.{sym, _∙_}
 use borrow.Author.Needs.{needs}
 use Rattle.carry.proofs.Columns.{text-length}
 use Rattle.print.proofs.Ends.{printed-refused, printed-made}

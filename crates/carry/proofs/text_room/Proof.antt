@@ -1,5 +1,4 @@
 -- `carry::text_room` meets its contract: the definition at the branches' tests. Assumes nothing.
-use borrow.Author.Needs.{needs}
 use Rattle.carry.specs.Carry.{textRoom}
 use Rattle.line.proofs.Rules.{cases}
 use Rattle.carry.proofs.text_room.Statement.{statement}

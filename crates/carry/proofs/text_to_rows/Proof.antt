@@ -1,5 +1,5 @@
 -- `carry::text_to_rows` meets its contract: no bad line, room for the columns, and then their digits. Assumes nothing.
-use mathlib.Core.Path.{_≡_, sym, _∙_}
+use mathlib.Core.Path.{sym, _∙_}
 use borrow.Author.Needs.{needs}
 use Rattle.carry.proofs.Ends.{room-enough, taken-bad, taken-refused, taken-columns}
 use Rattle.line.proofs.Text.{good-long}

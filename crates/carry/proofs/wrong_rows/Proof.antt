@@ -1,8 +1,8 @@
 -- `carry::wrong_rows` meets its contract: the definition at the branches' tests. Assumes nothing.
-use mathlib.Core.Path.{_≡_}
 use borrow.Author.Needs.{needs}
-use borrow.Author.Tests.{lt-ltb, le-ltb, eq-eqb, ne-eqb}
+use borrow.Author.Tests.{lt-ltb, le-ltb, ne-eqb}
 use Rattle.carry.specs.Carry.{wrongRows}
+use Rattle.carry.proofs.Ends.{by-bytes}
 use Rattle.carry.proofs.wrong_rows.Statement.{statement}
 use Rattle.carry.proofs.wrong_rows.Tie as tie
 
@@ -27,49 +27,28 @@ are-bits-requires-2 : tie.Need-are-bits-requires-2
 are-bits-requires-2 c κs = search needs
 
 returns-4 : tie.Need-returns-4
-unfolding wrongRows
 returns-4 c =
     let first = c .before .before .before in
     let same = first .before in
-    let short = same .before in
-    rw (
-      le-ltb _ _ (short .before .if1 .left),
-      le-ltb _ _ (short .if2 .left),
-      eq-eqb _ _ (same .if3 .left),
-      ← first .are-bits .ensures,
-      c .before .before .if4 .taken,
-      ← c .before .are-bits2 .ensures,
-      c .if5 .taken,
-    )
+    let a = same .before .before .before .before .before .args in
+    let bytes = by-bytes (a .cdm .now) (a .cds .now) (same .before .before .if1 .left) (same .before .if2 .left) (same .if3 .left) in
+    rw (bytes, ← first .are-bits .ensures, c .before .before .if4 .taken, ← c .before .are-bits2 .ensures, c .if5 .taken)
 
 returns-5 : tie.Need-returns-5
-unfolding wrongRows
 returns-5 c =
     let first = c .before .before .before in
     let same = first .before in
-    let short = same .before in
-    rw (
-      le-ltb _ _ (short .before .if1 .left),
-      le-ltb _ _ (short .if2 .left),
-      eq-eqb _ _ (same .if3 .left),
-      ← first .are-bits .ensures,
-      c .before .before .if4 .taken,
-      ← c .before .are-bits2 .ensures,
-      c .if5 .left,
-    )
+    let a = same .before .before .before .before .before .args in
+    let bytes = by-bytes (a .cdm .now) (a .cds .now) (same .before .before .if1 .left) (same .before .if2 .left) (same .if3 .left) in
+    rw (bytes, ← first .are-bits .ensures, c .before .before .if4 .taken, ← c .before .are-bits2 .ensures, c .if5 .left)
 
 returns-6 : tie.Need-returns-6
-unfolding wrongRows
 returns-6 c =
-    let same = c .before .before in
-    let short = same .before in
-    rw (
-      le-ltb _ _ (short .before .if1 .left),
-      le-ltb _ _ (short .if2 .left),
-      eq-eqb _ _ (same .if3 .left),
-      ← c .before .are-bits .ensures,
-      c .if4 .left,
-    )
+    let first = c .before in
+    let same = first .before in
+    let a = same .before .before .before .before .before .args in
+    let bytes = by-bytes (a .cdm .now) (a .cds .now) (same .before .before .if1 .left) (same .before .if2 .left) (same .if3 .left) in
+    rw (bytes, ← first .are-bits .ensures, c .if4 .left)
 
 pub wrong-rows-spec : {M : Type 1} → statement M
 wrong-rows-spec =

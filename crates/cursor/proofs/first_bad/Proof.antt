@@ -1,7 +1,6 @@
 -- `cursor::first_bad` meets its contract. The loop's invariant: the lines that are left decide what all of them decide. Assumes nothing.
-use mathlib.Core.Path.{_≡_, refl, sym, _∙_}
+use mathlib.Core.Path.{_≡_, sym, _∙_}
 use Prim.Native.Nat.{_+_, _-_, _*_, _≤_}
-use native.Mathlib.Omega.{arith}
 use borrow.Author.Needs.{needs}
 use lib.ListN.{length, drop}
 use Rattle.cursor.proofs.Lines.{good-column, bad-column, short-line, no-line}

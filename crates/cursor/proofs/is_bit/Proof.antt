@@ -1,5 +1,4 @@
 -- `cursor::is_bit` meets its contract: the definition at the branch's test. Assumes nothing.
-use borrow.Author.Needs.{needs}
 use Rattle.line.proofs.Rules.{cases}
 use Rattle.cursor.proofs.is_bit.Statement.{statement}
 use Rattle.cursor.proofs.is_bit.Tie as tie

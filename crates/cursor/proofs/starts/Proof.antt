@@ -1,7 +1,7 @@
 -- `cursor::starts` meets its contract. The loop's invariant: the bytes that are left of the line decide what all of them decide.
 -- Assumes nothing.
 use mathlib.Core.List.{map}
-use mathlib.Core.Path.{_≡_, refl, sym, _∙_}
+use mathlib.Core.Path.{_≡_, sym, _∙_}
 use Prim.Native.Nat.{_+_, _-_, _≤_}
 use native.Mathlib.Nat.{add-zero}
 use borrow.Author.Needs.{needs}

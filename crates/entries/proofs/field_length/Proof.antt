@@ -1,6 +1,5 @@
 -- `entries::field_length` meets its contract: a TAB, and the digits or `-`. Assumes nothing.
-use mathlib.Core.Path.{_≡_, sym, ap, _∙_}
-use native.Mathlib.Omega.{arith}
+use mathlib.Core.Path.{ap}
 use borrow.Author.Needs.{needs}
 use lib.ListN.{length}
 use Rattle.entries.proofs.Parts.{field-named, field-unnamed}

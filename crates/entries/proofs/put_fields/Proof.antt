@@ -1,30 +1,26 @@
 -- `entries::put_fields` meets its contract: the parts of the line one behind the other. Assumes nothing.
 use mathlib.Core.Bool.{Bool}
-use mathlib.Core.Path.{_≡_, sym, ap, _∙_}
+use mathlib.Core.Path.{ap}
 use native.Mathlib.Omega.{arith}
 use borrow.Author.Needs.{needs}
-use lib.ListN.{length, length-set}
-use Rattle.entries.proofs.Parts.{line-parts, line-length}
+use Rattle.entries.proofs.Parts.{line-parts, fits-name, fits-column, fits-id, fits-address, fits-value, fits-feed}
 use Rattle.line.specs.Text.{field}
-use Rattle.print.proofs.Runs.{renamed, then, one-byte, laid-length}
+use Rattle.print.proofs.Runs.{renamed, then, one-byte, laid-length, room-behind}
 use Rattle.entries.proofs.put_fields.Statement.{statement}
 use Rattle.entries.proofs.put_fields.Tie as tie
 
 put-name-requires : tie.Need-put-name-requires
 put-name-requires c κs =
-    let a = c .before .before .args in
-    let all = line-length (a .kind) (a .column) (a .id) (a .address) (a .value) in
-    (search needs, omega arith)
+    let start = c .before .before in
+    let a = start .args in
+    (search needs, fits-name (a .kind) (a .column) (a .id) (a .address) (a .value) (a .at) _ (start .pre .1))
 
 put-field-requires : tie.Need-put-field-requires
 put-field-requires c κs =
     let name = c .before .before .before in
     let start = name .before .before .before in
     let a = start .args in
-    let laid-name = name .put-name .ensures in
-    let kept-name = laid-length laid-name in
-    let all = line-length (a .kind) (a .column) (a .id) (a .address) (a .value) in
-    omega arith
+    room-behind (name .put-name .ensures) _ (fits-column (a .kind) (a .column) (a .id) (a .address) (a .value) (a .at) _ (start .pre .1))
 
 has-field-requires : tie.Need-has-field-requires
 has-field-requires c κs = search needs
@@ -35,13 +31,7 @@ put-field-requires-2 c κs =
     let name = columns .before .before .before .before in
     let start = name .before .before .before in
     let a = start .args in
-    let laid-name = name .put-name .ensures in
-    let laid-column = columns .put-field .ensures in
-    let kept-name = laid-length laid-name in
-    let kept-column = laid-length laid-column in
-    let all = line-length (a .kind) (a .column) (a .id) (a .address) (a .value) in
-    let own = ap (λ (b : Bool). length (field b (a .id))) (c .has-field .ensures) in
-    omega arith
+    rw (c .has-field .ensures) (room-behind (then (name .put-name .ensures) (columns .put-field .ensures)) _ (fits-id (a .kind) (a .column) (a .id) (a .address) (a .value) (a .at) _ (start .pre .1)))
 
 has-field-requires-2 : tie.Need-has-field-requires-2
 has-field-requires-2 c κs = search needs
@@ -53,15 +43,7 @@ put-field-requires-3 c κs =
     let name = columns .before .before .before .before in
     let start = name .before .before .before in
     let a = start .args in
-    let laid-name = name .put-name .ensures in
-    let laid-column = columns .put-field .ensures in
-    let laid-id = renamed (ap (λ (b : Bool). field b (a .id)) (ids .before .has-field .ensures)) (ids .put-field2 .ensures) in
-    let kept-name = laid-length laid-name in
-    let kept-column = laid-length laid-column in
-    let kept-id = laid-length laid-id in
-    let all = line-length (a .kind) (a .column) (a .id) (a .address) (a .value) in
-    let own = ap (λ (b : Bool). length (field b (a .address))) (c .has-field2 .ensures) in
-    omega arith
+    rw (c .has-field2 .ensures) (room-behind (then (then (name .put-name .ensures) (columns .put-field .ensures)) (renamed (ap (λ (b : Bool). field b (a .id)) (ids .before .has-field .ensures)) (ids .put-field2 .ensures))) _ (fits-address (a .kind) (a .column) (a .id) (a .address) (a .value) (a .at) _ (start .pre .1)))
 
 has-field-requires-3 : tie.Need-has-field-requires-3
 has-field-requires-3 c κs = search needs
@@ -74,17 +56,7 @@ put-field-requires-4 c κs =
     let name = columns .before .before .before .before in
     let start = name .before .before .before in
     let a = start .args in
-    let laid-name = name .put-name .ensures in
-    let laid-column = columns .put-field .ensures in
-    let laid-id = renamed (ap (λ (b : Bool). field b (a .id)) (ids .before .has-field .ensures)) (ids .put-field2 .ensures) in
-    let laid-address = renamed (ap (λ (b : Bool). field b (a .address)) (addresses .before .has-field2 .ensures)) (addresses .put-field3 .ensures) in
-    let kept-name = laid-length laid-name in
-    let kept-column = laid-length laid-column in
-    let kept-id = laid-length laid-id in
-    let kept-address = laid-length laid-address in
-    let all = line-length (a .kind) (a .column) (a .id) (a .address) (a .value) in
-    let own = ap (λ (b : Bool). length (field b (a .value))) (c .has-field3 .ensures) in
-    omega arith
+    rw (c .has-field3 .ensures) (room-behind (then (then (then (name .put-name .ensures) (columns .put-field .ensures)) (renamed (ap (λ (b : Bool). field b (a .id)) (ids .before .has-field .ensures)) (ids .put-field2 .ensures))) (renamed (ap (λ (b : Bool). field b (a .address)) (addresses .before .has-field2 .ensures)) (addresses .put-field3 .ensures))) _ (fits-value (a .kind) (a .column) (a .id) (a .address) (a .value) (a .at) _ (start .pre .1)))
 
 slice-write-out : tie.Need-slice-write-out
 slice-write-out c =
@@ -95,17 +67,9 @@ slice-write-out c =
     let name = columns .before .before .before .before in
     let start = name .before .before .before in
     let a = start .args in
-    let laid-name = name .put-name .ensures in
-    let laid-column = columns .put-field .ensures in
-    let laid-id = renamed (ap (λ (b : Bool). field b (a .id)) (ids .before .has-field .ensures)) (ids .put-field2 .ensures) in
-    let laid-address = renamed (ap (λ (b : Bool). field b (a .address)) (addresses .before .has-field2 .ensures)) (addresses .put-field3 .ensures) in
-    let laid-value = renamed (ap (λ (b : Bool). field b (a .value)) (values .before .has-field3 .ensures)) (values .put-field4 .ensures) in
-    let kept-name = laid-length laid-name in
-    let kept-column = laid-length laid-column in
-    let kept-id = laid-length laid-id in
-    let kept-address = laid-length laid-address in
-    let kept-value = laid-length laid-value in
-    let all = line-length (a .kind) (a .column) (a .id) (a .address) (a .value) in
+    let put = (then (then (then (then (name .put-name .ensures) (columns .put-field .ensures)) (renamed (ap (λ (b : Bool). field b (a .id)) (ids .before .has-field .ensures)) (ids .put-field2 .ensures))) (renamed (ap (λ (b : Bool). field b (a .address)) (addresses .before .has-field2 .ensures)) (addresses .put-field3 .ensures))) (renamed (ap (λ (b : Bool). field b (a .value)) (values .before .has-field3 .ensures)) (values .put-field4 .ensures))) in
+    let kept = laid-length put in
+    let fits = fits-feed (a .kind) (a .column) (a .id) (a .address) (a .value) (a .at) _ (start .pre .1) in
     omega arith
 
 add-result : tie.Need-add-result
@@ -117,17 +81,8 @@ add-result c =
     let name = columns .before .before .before .before in
     let start = name .before .before .before in
     let a = start .args in
-    let laid-name = name .put-name .ensures in
-    let laid-column = columns .put-field .ensures in
-    let laid-id = renamed (ap (λ (b : Bool). field b (a .id)) (ids .before .has-field .ensures)) (ids .put-field2 .ensures) in
-    let laid-address = renamed (ap (λ (b : Bool). field b (a .address)) (addresses .before .has-field2 .ensures)) (addresses .put-field3 .ensures) in
-    let laid-value = renamed (ap (λ (b : Bool). field b (a .value)) (values .before .has-field3 .ensures)) (values .put-field4 .ensures) in
-    let kept-name = laid-length laid-name in
-    let kept-column = laid-length laid-column in
-    let kept-id = laid-length laid-id in
-    let kept-address = laid-length laid-address in
-    let kept-value = laid-length laid-value in
-    let all = line-length (a .kind) (a .column) (a .id) (a .address) (a .value) in
+    let put = (then (then (then (then (name .put-name .ensures) (columns .put-field .ensures)) (renamed (ap (λ (b : Bool). field b (a .id)) (ids .before .has-field .ensures)) (ids .put-field2 .ensures))) (renamed (ap (λ (b : Bool). field b (a .address)) (addresses .before .has-field2 .ensures)) (addresses .put-field3 .ensures))) (renamed (ap (λ (b : Bool). field b (a .value)) (values .before .has-field3 .ensures)) (values .put-field4 .ensures))) in
+    let fits = fits-feed (a .kind) (a .column) (a .id) (a .address) (a .value) (a .at) _ (start .pre .1) in
     search needs
 
 same-length : tie.Need-same-length
@@ -139,12 +94,7 @@ same-length c =
     let name = columns .before .before .before .before in
     let start = name .before .before .before in
     let a = start .args in
-    let laid-name = name .put-name .ensures in
-    let laid-column = columns .put-field .ensures in
-    let laid-id = renamed (ap (λ (b : Bool). field b (a .id)) (ids .before .has-field .ensures)) (ids .put-field2 .ensures) in
-    let laid-address = renamed (ap (λ (b : Bool). field b (a .address)) (addresses .before .has-field2 .ensures)) (addresses .put-field3 .ensures) in
-    let laid-value = renamed (ap (λ (b : Bool). field b (a .value)) (values .before .has-field3 .ensures)) (values .put-field4 .ensures) in
-    laid-length (then (then (then (then (then laid-name laid-column) laid-id) laid-address) laid-value) (one-byte _ _ 10))
+    laid-length (then (then (then (then (then (name .put-name .ensures) (columns .put-field .ensures)) (renamed (ap (λ (b : Bool). field b (a .id)) (ids .before .has-field .ensures)) (ids .put-field2 .ensures))) (renamed (ap (λ (b : Bool). field b (a .address)) (addresses .before .has-field2 .ensures)) (addresses .put-field3 .ensures))) (renamed (ap (λ (b : Bool). field b (a .value)) (values .before .has-field3 .ensures)) (values .put-field4 .ensures))) (one-byte _ _ 10))
 
 returns : tie.Need-returns
 returns c =
@@ -155,13 +105,7 @@ returns c =
     let name = columns .before .before .before .before in
     let start = name .before .before .before in
     let a = start .args in
-    let laid-name = name .put-name .ensures in
-    let laid-column = columns .put-field .ensures in
-    let laid-id = renamed (ap (λ (b : Bool). field b (a .id)) (ids .before .has-field .ensures)) (ids .put-field2 .ensures) in
-    let laid-address = renamed (ap (λ (b : Bool). field b (a .address)) (addresses .before .has-field2 .ensures)) (addresses .put-field3 .ensures) in
-    let laid-value = renamed (ap (λ (b : Bool). field b (a .value)) (values .before .has-field3 .ensures)) (values .put-field4 .ensures) in
-    renamed (line-parts (a .kind) (a .column) (a .id) (a .address) (a .value))
-    (then (then (then (then (then laid-name laid-column) laid-id) laid-address) laid-value) (one-byte _ _ 10))
+    renamed (line-parts (a .kind) (a .column) (a .id) (a .address) (a .value)) (then (then (then (then (then (name .put-name .ensures) (columns .put-field .ensures)) (renamed (ap (λ (b : Bool). field b (a .id)) (ids .before .has-field .ensures)) (ids .put-field2 .ensures))) (renamed (ap (λ (b : Bool). field b (a .address)) (addresses .before .has-field2 .ensures)) (addresses .put-field3 .ensures))) (renamed (ap (λ (b : Bool). field b (a .value)) (values .before .has-field3 .ensures)) (values .put-field4 .ensures))) (one-byte _ _ 10))
 
 pub put-fields-spec : {M : Type 1} → statement M
 put-fields-spec =

@@ -1,6 +1,5 @@
 -- `names::is_kind` meets its contract: the table has 1 to 16. Assumes nothing.
-use mathlib.Core.Path.{_≡_, sym}
-use borrow.Author.Needs.{needs}
+use mathlib.Core.Path.{sym}
 use Rattle.names.proofs.Numbers.{no-kind, up-to-last}
 use Rattle.names.proofs.is_kind.Statement.{statement}
 use Rattle.names.proofs.is_kind.Tie as tie

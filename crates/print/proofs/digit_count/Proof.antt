@@ -1,5 +1,5 @@
 -- `print::digit_count` meets its contract: between two powers of ten the count is known. Assumes nothing.
-use mathlib.Core.Path.{_≡_, sym, ap}
+use mathlib.Core.Path.{sym, ap}
 use borrow.Author.Needs.{needs}
 use lib.ListN.{length}
 use Rattle.print.proofs.Decimal.{decimal-one, decimal-length}

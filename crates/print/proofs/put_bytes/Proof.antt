@@ -1,6 +1,6 @@
 -- `print::put_bytes` meets its contract. The loop's invariant: the bytes that are left, laid on the buffer of now, are all the bytes laid
 -- on the first buffer. Assumes nothing.
-use mathlib.Core.Path.{_≡_, sym, ap, _∙_}
+use mathlib.Core.Path.{_≡_, sym, _∙_}
 use Prim.Native.Nat.{_+_, _-_, _≤_}
 use borrow.Author.Needs.{needs}
 use lib.ListN.{length, length-set, drop}
