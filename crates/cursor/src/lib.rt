@@ -69,6 +69,13 @@ pub fn bad_in_piece(piece: &[u8], before: usize) -> usize
     }
 }
 
+// Whether a text begins with these bytes.
+pub fn begins_with(text: &[u8], line: &[u8]) -> bool
+    ensures { λ r. ⌜ r ≡ begins (map Form.exactly (now (line .entry))) (now (text .entry)) ⌝ }
+{
+    starts(text, 0, line)
+}
+
 // Whether the text at a place begins with these bytes.
 fn starts(text: &[u8], at: usize, line: &[u8]) -> bool
     requires { ⌜ at ≤ length (now text) ⌝ }

@@ -159,8 +159,7 @@ fn put_field(out: &mut [u8], at: usize, named: bool, n: u16) -> usize
     ensures { λ r. ⌜ Laid (field named n) at (now (out .entry)) r (now (out .exit)) ⌝ }
 {
     if named {
-        out[at] = b'\t';
-        print::put_decimal(out, at + 1, n)
+        print::put_number(out, at, n as u64)
     } else {
         print::put_bytes(out, at, b"\t-")
     }

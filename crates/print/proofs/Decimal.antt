@@ -5,7 +5,7 @@ use Prim.Native.Nat.{ℕ, zero, suc, _+_, _*_, _/_, _%_, _^_, _≤_, _<_}
 use native.Mathlib.Nat.{pow-succ', pow-le-pow-right}
 use native.Mathlib.Numerals.{add-one}
 use native.Mathlib.Omega.{arith}
-use borrow.Author.Tests.{lt-ltb, le-ltb, ltb-false}
+use borrow.Author.Tests.{lt-ltb, le-ltb, ltb-true, ltb-false}
 use lib.Dec.{ltb}
 use lib.ListN.{length, length-append}
 use Rattle.line.specs.Text.{digit, digitsIn, decimal}
@@ -39,3 +39,11 @@ decimal-length (suc k) n h l =
     let ten : 10 ^ suc k ≡ 10 * 10 ^ k = pow-succ' 10 k in
     let hundred : 10 ^ suc (suc k) ≡ 10 * 10 ^ suc k = pow-succ' 10 (suc k) in
     rw (decimal-longer n (omega arith), decimal-length k (n / 10) (omega arith) (omega arith), add-one)
+
+-- A number below 10^(k + 1) has at most k + 1.
+pub decimal-short : (k n : ℕ) → n < 10 ^ suc k → length (decimal n) ≤ suc k
+decimal-short zero n h = rw (decimal-one n (omega arith)) (omega arith)
+decimal-short (suc k) n h =
+    let ten : 10 ^ suc (suc k) ≡ 10 * 10 ^ suc k = pow-succ' 10 (suc k) in
+    tested (ltb n 10) (λ q. rw (decimal-one n (ltb-true n 10 q)) (omega arith))
+    (λ q. rw (decimal-longer n (ltb-false n 10 q), add-one) (omega (arith, decimal-short k (n / 10) (omega arith))))

@@ -1,8 +1,9 @@
 // Printing into a lent buffer: bytes, and numbers in decimal. Each function lays its bytes at a place and answers the place behind them.
 ghost use mathlib.Core.Path.{_≡_};
+ghost use mathlib.Core.List.{_∷_};
 ghost use Prim.Native.Nat.{_+_, _≤_};
 ghost use lib.ListN.{length};
-ghost use Rattle.line.specs.Text.{decimal};
+ghost use Rattle.line.specs.Text.{tab, decimal};
 ghost use Rattle.print.specs.Laid.{Laid};
 
 // Lays bytes as they are.
@@ -21,7 +22,7 @@ pub fn put_bytes(out: &mut [u8], at: usize, bytes: &[u8]) -> usize
 }
 
 // Text: "decimal".
-pub fn put_decimal(out: &mut [u8], at: usize, n: u16) -> usize
+pub fn put_decimal(out: &mut [u8], at: usize, n: u64) -> usize
     requires { ⌜ at + length (decimal n) ≤ length (now out) ⌝ }
     ensures { λ r. ⌜ Laid (decimal n) at (now (out .entry)) r (now (out .exit)) ⌝ }
 {
@@ -33,6 +34,15 @@ pub fn put_decimal(out: &mut [u8], at: usize, n: u16) -> usize
         out[p] = b'0' + (n % 10) as u8;
         p + 1
     }
+}
+
+// A number's field: a TAB, and the number in decimal.
+pub fn put_number(out: &mut [u8], at: usize, n: u64) -> usize
+    requires { ⌜ at + 1 + length (decimal n) ≤ length (now out) ⌝ }
+    ensures { λ r. ⌜ Laid (tab ∷ decimal n) at (now (out .entry)) r (now (out .exit)) ⌝ }
+{
+    out[at] = b'\t';
+    put_decimal(out, at + 1, n)
 }
 
 // How many digits a number has.

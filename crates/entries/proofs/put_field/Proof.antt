@@ -1,27 +1,18 @@
--- `entries::put_field` meets its contract: a TAB, and the digits or `-`. Assumes nothing.
+-- `entries::put_field` meets its contract: the number's field, or `-`. Assumes nothing.
 use mathlib.Core.Path.{sym, ap}
 use borrow.Author.Needs.{needs}
-use lib.ListN.{length, length-set}
+use lib.ListN.{length}
 use Rattle.entries.proofs.Parts.{field-named, field-unnamed}
-use Rattle.print.proofs.Runs.{renamed, then, one-byte, laid-length}
+use Rattle.print.proofs.Runs.{renamed}
 use Rattle.entries.proofs.put_field.Statement.{statement}
 use Rattle.entries.proofs.put_field.Tie as tie
 
-slice-write-out : tie.Need-slice-write-out
-slice-write-out c =
-    let a = c .before .before .args in
-    let long = ap length (field-named (a .named) (a .n) (c .if1 .taken)) in
-    search needs
-
-add-put-decimal : tie.Need-add-put-decimal
-add-put-decimal c = search needs
-
-put-decimal-requires : tie.Need-put-decimal-requires
-put-decimal-requires c κs =
+put-number-requires : tie.Need-put-number-requires
+put-number-requires c κs =
     let named = c .before in
     let a = named .before .before .args in
     let long = ap length (field-named (a .named) (a .n) (named .if1 .taken)) in
-    rw length-set (search needs)
+    search needs
 
 slice-aggregate-put-bytes : tie.Need-slice-aggregate-put-bytes
 slice-aggregate-put-bytes c = search needs
@@ -34,17 +25,14 @@ put-bytes-requires c κs =
     search needs
 
 same-length : tie.Need-same-length
-same-length c =
-    let put = c .before .before in
-    let a = put .before .before .before .before .args in
-    laid-length (then (one-byte (a .out .now) (a .at) 9) (put .put-decimal .ensures))
+same-length c = search needs
 
 returns : tie.Need-returns
 returns c =
     let put = c .before .before in
     let named = put .before .before in
     let a = named .before .before .args in
-    renamed (sym (field-named (a .named) (a .n) (named .if1 .taken))) (then (one-byte (a .out .now) (a .at) 9) (put .put-decimal .ensures))
+    renamed (sym (field-named (a .named) (a .n) (named .if1 .taken))) (put .put-number .ensures)
 
 same-length-2 : tie.Need-same-length-2
 same-length-2 c = search needs
@@ -60,9 +48,7 @@ pub put-field-spec : {M : Type 1} → statement M
 put-field-spec =
     tie.close
     (tie.spec
-    slice-write-out
-    add-put-decimal
-    put-decimal-requires
+    put-number-requires
     slice-aggregate-put-bytes
     put-bytes-requires
     same-length

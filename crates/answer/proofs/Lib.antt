@@ -1,0 +1,4 @@
+-- What is proved of the indexing program's answer, beside the proofs of its functions: lines of refusals, what the jobs say, texts in pieces.
+pub mod Lines
+pub mod Rows
+pub mod Pieces

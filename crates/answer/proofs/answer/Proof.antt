@@ -1,0 +1,139 @@
+-- `answer::answer` meets its contract: the answer of the rows that the text gives, 5, or 11 with its line. Assumes nothing.
+use mathlib.Core.Path.{sym}
+use borrow.Author.Needs.{needs}
+use lib.Seq.{length-take-le}
+use Rattle.answer.proofs.Rows.{says, rows-right, answers-rows, answers-long, answers-bad}
+use Rattle.answer.proofs.answer.Statement.{statement}
+use Rattle.answer.proofs.answer.Tie as tie
+
+row-requires : tie.Need-row-requires
+row-requires c κs = search needs
+
+row-requires-2 : tie.Need-row-requires-2
+row-requires-2 c κs = search needs
+
+slice-aggregate-text-to-rows : tie.Need-slice-aggregate-text-to-rows
+slice-aggregate-text-to-rows c = search needs
+
+slice-aggregate-text-to-rows-2 : tie.Need-slice-aggregate-text-to-rows-2
+slice-aggregate-text-to-rows-2 c = search needs
+
+text-to-rows-requires : tie.Need-text-to-rows-requires
+text-to-rows-requires c κs = search needs
+
+enum-known-taken : tie.Need-enum-known-taken
+enum-known-taken c = search needs
+
+array-share-prefix-cdm : tie.Need-array-share-prefix-cdm
+array-share-prefix-cdm c =
+    let told = c .before in
+    let take = told .before .before .before .before in
+    let cds-room = take .before .before .before in
+    let t = rw (told .taken .given .1) at (says _ _ _ (cds-room .before .row .ensures) (cds-room .row2 .ensures) (take .text-to-rows .ensures)) in
+    t .in-cdm
+
+slice-aggregate-rows-answer : tie.Need-slice-aggregate-rows-answer
+slice-aggregate-rows-answer c =
+    let told = c .before .before in
+    let take = told .before .before .before .before in
+    let cds-room = take .before .before .before in
+    let t = rw (told .taken .given .1) at (says _ _ _ (cds-room .before .row .ensures) (cds-room .row2 .ensures) (take .text-to-rows .ensures)) in
+    sym (length-take-le _ _ (t .in-cdm))
+
+array-share-prefix-cds : tie.Need-array-share-prefix-cds
+array-share-prefix-cds c =
+    let told = c .before .before in
+    let take = told .before .before .before .before in
+    let cds-room = take .before .before .before in
+    let t = rw (told .taken .given .1) at (says _ _ _ (cds-room .before .row .ensures) (cds-room .row2 .ensures) (take .text-to-rows .ensures)) in
+    t .in-cds
+
+slice-aggregate-rows-answer-2 : tie.Need-slice-aggregate-rows-answer-2
+slice-aggregate-rows-answer-2 c =
+    let told = c .before .before .before in
+    let take = told .before .before .before .before in
+    let cds-room = take .before .before .before in
+    let t = rw (told .taken .given .1) at (says _ _ _ (cds-room .before .row .ensures) (cds-room .row2 .ensures) (take .text-to-rows .ensures)) in
+    sym (length-take-le _ _ (t .in-cds))
+
+rows-answer-requires : tie.Need-rows-answer-requires
+rows-answer-requires c κs =
+    let told = c .before .before .before .before in
+    let take = told .before .before .before .before in
+    let cds-room = take .before .before .before in
+    let t = rw (told .taken .given .1) at (says _ _ _ (cds-room .before .row .ensures) (cds-room .row2 .ensures) (take .text-to-rows .ensures)) in
+    rows-right t
+
+enum-known-taken-2 : tie.Need-enum-known-taken-2
+enum-known-taken-2 c = search needs
+
+refused-requires : tie.Need-refused-requires
+refused-requires c κs = search needs
+
+enum-known-taken-3 : tie.Need-enum-known-taken-3
+enum-known-taken-3 c = search needs
+
+bad-line-requires : tie.Need-bad-line-requires
+bad-line-requires c κs = search needs
+
+same-length : tie.Need-same-length
+same-length c = search needs
+
+returns : tie.Need-returns
+returns c =
+    let print = c .before .before in
+    let told = print .before .before .before .before .before in
+    let take = told .before .before .before .before in
+    let cds-room = take .before .before .before in
+    let t = rw (told .taken .given .1) at (says _ _ _ (cds-room .before .row .ensures) (cds-room .row2 .ensures) (take .text-to-rows .ensures)) in
+    rw (answers-rows _ _ (t .good) (t .short), ← t .cdm-row, ← t .cds-row) (print .rows-answer .ensures)
+
+same-length-2 : tie.Need-same-length-2
+same-length-2 c = search needs
+
+returns-2 : tie.Need-returns-2
+returns-2 c =
+    let print = c .before .before in
+    let told = print .before .before .before in
+    let take = told .before .before .before .before in
+    let cds-room = take .before .before .before in
+    let t = rw (told .taken2 .given .1) at (says _ _ _ (cds-room .before .row .ensures) (cds-room .row2 .ensures) (take .text-to-rows .ensures)) in
+    rw (answers-long _ _ (t .0) (t .1), ← t .2) (print .refused .ensures)
+
+same-length-3 : tie.Need-same-length-3
+same-length-3 c = search needs
+
+returns-3 : tie.Need-returns-3
+returns-3 c =
+    let print = c .before .before in
+    let told = print .before .before .before in
+    let take = told .before .before .before .before in
+    let cds-room = take .before .before .before in
+    let t = rw (told .taken3 .given .1) at (says _ _ _ (cds-room .before .row .ensures) (cds-room .row2 .ensures) (take .text-to-rows .ensures)) in
+    rw (answers-bad _ _ (t .0), ← t .1) (print .bad-line .ensures)
+
+pub answer-spec : {M : Type 1} → statement M
+answer-spec =
+    tie.close
+    (tie.spec
+    row-requires
+    row-requires-2
+    slice-aggregate-text-to-rows
+    slice-aggregate-text-to-rows-2
+    text-to-rows-requires
+    enum-known-taken
+    array-share-prefix-cdm
+    slice-aggregate-rows-answer
+    array-share-prefix-cds
+    slice-aggregate-rows-answer-2
+    rows-answer-requires
+    enum-known-taken-2
+    refused-requires
+    enum-known-taken-3
+    bad-line-requires
+    same-length
+    returns
+    same-length-2
+    returns-2
+    same-length-3
+    returns-3)

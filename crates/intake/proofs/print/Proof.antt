@@ -1,0 +1,52 @@
+-- `intake::print` meets its contract: what was made stands at the start of the buffer. Assumes nothing.
+use borrow.Author.Needs.{needs}
+use Rattle.intake.proofs.print.Statement.{statement}
+use Rattle.intake.proofs.print.Tie as tie
+
+enum-known-answered : tie.Need-enum-known-answered
+enum-known-answered c = search needs
+
+slice-aggregate-write-all : tie.Need-slice-aggregate-write-all
+slice-aggregate-write-all c =
+    let told = c .before .before in
+    let made = rw (told .answered .given .1) at (told .before .before .before .pre) in
+    made .1
+
+write-all-requires : tie.Need-write-all-requires
+write-all-requires c κs = search needs
+
+slice-aggregate-fail : tie.Need-slice-aggregate-fail
+slice-aggregate-fail c = search needs
+
+fail-requires : tie.Need-fail-requires
+fail-requires c κs = search needs
+
+enum-told : tie.Need-enum-told
+enum-told c = search needs
+
+no-room-requires : tie.Need-no-room-requires
+no-room-requires c κs = search needs
+
+returns : tie.Need-returns
+returns c = search needs
+
+returns-2 : tie.Need-returns-2
+returns-2 c = search needs
+
+returns-3 : tie.Need-returns-3
+returns-3 c = search needs
+
+pub print-spec : {M : Type 1} → statement M
+print-spec =
+    tie.close
+    (tie.spec
+    enum-known-answered
+    slice-aggregate-write-all
+    write-all-requires
+    slice-aggregate-fail
+    fail-requires
+    enum-told
+    no-room-requires
+    returns
+    returns-2
+    returns-3)
