@@ -61,11 +61,17 @@ pub struct Case {
     pub lent: Vec<Vec<u8>>,
     /// Only for read.
     pub answers: Option<Answers>,
+    /// What was done to make it, for the counts.
+    pub marks: Vec<&'static str>,
 }
 
 impl Case {
     pub fn new(job: Job, numbers: Vec<usize>, lent: Vec<Vec<u8>>) -> Case {
-        Case { job, numbers, lent, answers: None }
+        Case { job, numbers, lent, answers: None, marks: Vec::new() }
+    }
+
+    pub fn marked(self, marks: Vec<&'static str>) -> Case {
+        Case { marks, ..self }
     }
 }
 

@@ -145,6 +145,9 @@ fn shown(name: &str, slice: &[u8]) -> String {
     if is_row {
         return slice.iter().map(|byte| char::from(b'0' + byte)).collect();
     }
+    if name == "text" {
+        return format!("\"{}\"", slice.escape_ascii());
+    }
     if slice.len() > 1 && slice.iter().all(|&byte| byte == slice[0]) {
         return format!("all {:02x}", slice[0]);
     }
