@@ -1,5 +1,6 @@
-/* A master writes 5B to register 44 (hexadecimal) of the only slave of a chain; what was recorded is read back as a list. Then a call
- * that is refused. Every answer is checked: the program ends with 1 where one is not as expected. */
+/* A master writes 5B to register 44 (hexadecimal) of the only slave of a chain; what was recorded is read back as a list and printed,
+ * and carried to text and back. One text and one call are refused. Every answer is checked: the program ends with 1 where one is not as
+ * expected. */
 #include "../include/biss.h"
 
 #include <stdio.h>
@@ -21,11 +22,13 @@ static uint8_t *lent(size_t length, uint8_t filled) {
     return buffer;
 }
 
+/* 30 bytes for the header, at most 27 for an entry. */
 static void print_list(const uint8_t *list, size_t entries) {
-    for (size_t i = 0; i < entries; i++) {
-        const uint8_t *e = list + 6 * i;
-        printf("kind %u, column %u, id %u, address %u, value %u\n", e[0], 256u * e[1] + e[2], e[3], e[4], e[5]);
-    }
+    uint8_t *text = lent(30 + 27 * entries, 0);
+    uint64_t bytes = biss_list_to_text(list, 6 * entries, text, 30 + 27 * entries);
+    expect(!biss_is_refused(bytes), "a list that was read can be printed");
+    fwrite(text, 1, bytes, stdout);
+    free(text);
 }
 
 /* Two entries for one good write: the locks, and the byte written. */
@@ -36,6 +39,22 @@ static void list_write(const uint8_t *cdm, const uint8_t *cds, size_t columns) {
     print_list(list, 2);
     expect(biss_read(cdm, columns, cds, columns, 1, list, 12) == 0, "a reader let in one column later lists nothing");
     free(list);
+}
+
+/* Rows go to text and back unchanged; a text whose last column is no column is refusal 11, with its line. */
+static void carry_rows(const uint8_t *cdm, const uint8_t *cds, size_t columns) {
+    size_t bytes = 8 + 4 * columns;
+    uint8_t *text = lent(bytes, 0), *cdm_back = lent(columns, 7), *cds_back = lent(columns, 7);
+    expect(biss_rows_to_text(cdm, columns, cds, columns, text, bytes) == bytes, "the rows are printed where they just fit");
+    text[bytes - 2] = '2';
+    uint64_t answer = biss_text_to_rows(text, bytes, cdm_back, columns, cds_back, columns);
+    expect(biss_is_refused(answer) && biss_refusal(answer) == 11 && biss_line(answer) == columns + 1, "a 2 is no bit");
+    expect(cdm_back[0] == 7 && cds_back[columns - 1] == 7, "a refused text changes nothing");
+    printf("a text with a 2: refusal %u, line %u\n", biss_refusal(answer), (unsigned)biss_line(answer));
+    text[bytes - 2] = '0' + cds[columns - 1];
+    expect(biss_text_to_rows(text, bytes, cdm_back, columns, cds_back, columns) == columns, "the text is taken");
+    expect(memcmp(cdm, cdm_back, columns) == 0 && memcmp(cds, cds_back, columns) == 0, "the rows are the same");
+    free(text), free(cdm_back), free(cds_back);
 }
 
 /* A right above 3, the last of the chain's: refusal 4, and nothing lent has changed. */
@@ -59,6 +78,7 @@ int main(void) {
     expect(biss_run(1, rights, 128, registers, 128, cdm, columns, cds, columns) == columns, "the chain answers every column");
     expect(registers[0x44] == 0x5B, "the register holds what was written");
     list_write(cdm, cds, columns);
+    carry_rows(cdm, cds, columns);
     refused_run(cdm, columns, registers, rights);
     expect(biss_run(0, NULL, 0, NULL, 0, cdm, columns, cds, columns) == columns, "a chain of no slaves is a chain");
     free(row), free(cdm), free(cds), free(registers), free(rights);

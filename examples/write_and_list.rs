@@ -1,9 +1,10 @@
-//! A master writes 5B to register 44 (hexadecimal) of the only slave of a chain; what was recorded is read back as a list. Then a call
-//! that is refused. Every answer is asserted.
+//! A master writes 5B to register 44 (hexadecimal) of the only slave of a chain; what was recorded is read back as a list and printed,
+//! and carried to text and back. One text and one call are refused. Every answer is asserted.
 
 #[path = "../include/biss.rs"]
 #[allow(dead_code)]
 mod biss;
+use biss::Refusal;
 
 fn main() {
     let mut row = [0; 4096];
@@ -16,14 +17,25 @@ fn main() {
     let mut list = [0; 12];
     assert_eq!(biss::read(cdm, &cds, 0, &mut list), Ok(2));
     assert_eq!((list[6], list[10], list[11]), (11, 0x44, 0x5B));
-    for e in list.chunks(6) {
-        let column = 256 * u16::from(e[1]) + u16::from(e[2]);
-        println!("kind {}, column {column}, id {}, address {}, value {}", e[0], e[3], e[4], e[5]);
-    }
+    let mut text = [0; 30 + 2 * 27];
+    let bytes = biss::list_to_text(&list, &mut text).expect("a list that was read can be printed");
+    print!("{}", String::from_utf8_lossy(&text[..bytes]));
     assert_eq!(biss::read(cdm, &cds, 1, &mut list), Ok(0));
+
+    let mut text = vec![0; 8 + 4 * columns];
+    assert_eq!(biss::rows_to_text(cdm, &cds, &mut text), Ok(text.len()));
+    let (mut cdm_back, mut cds_back) = (vec![7; columns], vec![7; columns]);
+    let last_digit = text.len() - 2;
+    text[last_digit] = b'2';
+    let refused = biss::text_to_rows(&text, &mut cdm_back, &mut cds_back);
+    assert_eq!(refused, Err(Refusal::BadLine(columns + 1)));
+    println!("a text with a 2: refusal 11, line {}", columns + 1);
+    text[last_digit] = b'0' + cds[columns - 1];
+    assert_eq!(biss::text_to_rows(&text, &mut cdm_back, &mut cds_back), Ok(columns));
+    assert_eq!((cdm, &cds), (&cdm_back[..], &cds_back));
 
     rights[127] = 4;
     let refused = biss::run(1, &rights, &mut registers, cdm, &mut cds);
-    assert_eq!(refused, Err(4));
+    assert_eq!(refused, Err(Refusal::Number(4)));
     println!("a right above 3: refusal 4");
 }

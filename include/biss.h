@@ -1,19 +1,22 @@
-/* The jobs of the library biss: build, run and read (docs/ and README.md tell what they are).
+/* The jobs of the library biss: build, run, read and carry (docs/ and README.md tell what they are).
  *
- * Every call judges all that it is given before it writes. It answers how many columns or entries it made; or, with the bit
- * BISS_REFUSED set, the number of a refusal, and then no lent byte has changed. The first of these that holds is told:
+ * Every call judges all that it is given before it writes. It answers how many columns, bytes or entries it made; or, with the bit
+ * BISS_REFUSED set, the number of a refusal, and then no lent byte has changed. Number 11 is told by its line: the bit BISS_LINE is
+ * set too, and the line, counted from 1, stands in the number's place. biss_is_refused, biss_refusal and biss_line below read an
+ * answer. Of a job's refusals the first that holds is told, in the order that its call names:
  *
- *    1  more than 16 slaves                       6  two rows of different length
- *    2  registers not 128 x slaves bytes          7  a row byte that is not 0 or 1
- *    3  rights not 128 x slaves bytes             8  opening column greater than the length
- *    4  a right above 3                           9  the result needs more room than was lent
- *    5  a row of more than 4,096 columns         10  id over 7, address over 127, CMD over 3, count 0 or over 64,
- *                                                    or address + count over 128
+ *    1  more than 16 slaves                       7  a row byte that is not 0 or 1
+ *    2  registers not 128 x slaves bytes          8  opening column greater than the length
+ *    3  rights not 128 x slaves bytes             9  the result needs more room than was lent
+ *    4  a right above 3                          10  id over 7, address over 127, CMD over 3, count 0 or over 64,
+ *    5  a row of more than 4,096 columns             or address + count over 128
+ *    6  two rows of different length             11  a text not of its form; the first bad line
+ *                                                12  list length no multiple of 6, or a kind outside 1 to 16
  *
  * A buffer is a pointer and its length in bytes. It has to be as long as is said, and a buffer that a call writes must not overlap
  * another of the same call: this is all that a caller has to see to, for C cannot check it. A pointer of length 0 is not followed.
  * A row is one byte a column, 0 or 1; registers and rights are 128 bytes a slave, the far slave first; an entry is six bytes: kind,
- * column (high byte first), ID, address, value. */
+ * column (high byte first), ID, address, value. Texts are not ended by a zero byte. */
 #ifndef BISS_H
 #define BISS_H
 
@@ -21,28 +24,45 @@
 #include <stdint.h>
 
 #define BISS_REFUSED (UINT64_C(1) << 63)
+#define BISS_LINE (UINT64_C(1) << 62)
 
-/* Whether an answer is a refusal, and the number of it. */
+/* Whether an answer is a refusal; of a refusal, its number; and the first bad line for number 11, 0 for every other number. */
 static inline int biss_is_refused(uint64_t answer) { return (answer & BISS_REFUSED) != 0; }
-static inline unsigned biss_refusal(uint64_t answer) { return (unsigned)(answer & ~BISS_REFUSED); }
+static inline unsigned biss_refusal(uint64_t answer) { return answer & BISS_LINE ? 11 : (unsigned)(answer & ~BISS_REFUSED); }
+static inline uint64_t biss_line(uint64_t answer) { return answer & BISS_LINE ? answer & (BISS_LINE - 1) : 0; }
 
-/* Builds the master row of a read of `count` registers of the slave `id`, from `address` on, into the first bytes of `out`. */
+/* Builds the master row of a read of `count` registers of the slave `id`, from `address` on, into the first bytes of `out`.
+ * Refusals 10, 9. */
 uint64_t biss_build_read(uint8_t id, uint8_t address, size_t count, uint8_t *out, size_t out_length);
 
-/* Builds the master row of a write of `bytes` to the registers of the slave `id`, from `address` on. */
+/* Builds the master row of a write of `bytes` to the registers of the slave `id`, from `address` on. Refusals 10, 9. */
 uint64_t biss_build_write(uint8_t id, uint8_t address, const uint8_t *bytes, size_t bytes_length, uint8_t *out, size_t out_length);
 
-/* Builds the master row of the command `cmd` to the slaves whose bits are set in `ids`. */
+/* Builds the master row of the command `cmd` to the slaves whose bits are set in `ids`. Refusals 10, 9. */
 uint64_t biss_build_command(uint8_t ids, uint8_t cmd, uint8_t *out, size_t out_length);
 
 /* Runs a chain of slaves from power-on over the master row `cdm`: the answers go into `cds`, which is as long as `cdm`, and the
- * registers are left as the chain leaves them. */
+ * registers are left as the chain leaves them. Refusals 1 to 7. */
 uint64_t biss_run(size_t slaves, const uint8_t *rights, size_t rights_length, uint8_t *registers, size_t registers_length,
                   const uint8_t *cdm, size_t cdm_length, uint8_t *cds, size_t cds_length);
 
 /* Lists the entries that two recorded rows show to a reader that opens at the column `opening`, six bytes an entry, into the first
- * bytes of `out`. */
+ * bytes of `out`. Refusals 5 to 9. */
 uint64_t biss_read(const uint8_t *cdm, size_t cdm_length, const uint8_t *cds, size_t cds_length, size_t opening, uint8_t *out,
                    size_t out_length);
+
+/* Prints two rows as text, a header and then one column a line, into the first bytes of `out`: 8 bytes, and 4 a column. Refusals 5, 6,
+ * 7, 9. */
+uint64_t biss_rows_to_text(const uint8_t *cdm, size_t cdm_length, const uint8_t *cds, size_t cds_length, uint8_t *out,
+                           size_t out_length);
+
+/* Takes the two rows of a text, as biss_rows_to_text prints it, into the first bytes of `cdm` and `cds`, and answers how many columns
+ * they have. Refusals 11, 5, 9. */
+uint64_t biss_text_to_rows(const uint8_t *text, size_t text_length, uint8_t *cdm, size_t cdm_length, uint8_t *cds,
+                           size_t cds_length);
+
+/* Prints a list, as biss_read makes it, as text into the first bytes of `out`: a header of 30 bytes, and then an entry a line, at most
+ * 27 bytes, the kind by its name. Refusals 12, 9. */
+uint64_t biss_list_to_text(const uint8_t *list, size_t list_length, uint8_t *out, size_t out_length);
 
 #endif

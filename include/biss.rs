@@ -1,8 +1,27 @@
 //! The calls of the library biss, safe: a slice brings its length, and Rust keeps a lent buffer apart from every other.
 //! Include it as a module (`#[path = "..."] mod biss;`) and link `target/staticlib/libbiss.a`. What each call does is told in biss.h.
 
-/// How many columns or entries were made, or the number of the refusal.
-pub type Answer = Result<usize, u8>;
+/// Why a call refused; then no lent byte has changed.
+#[derive(Clone, Copy, PartialEq, Eq, Debug)]
+pub enum Refusal {
+    /// A number of the table in biss.h, but 11.
+    Number(u8),
+    /// Number 11: the first bad line of a text, counted from 1.
+    BadLine(usize),
+}
+
+impl Refusal {
+    /// The number of the table in biss.h.
+    pub fn number(self) -> u8 {
+        match self {
+            Refusal::Number(number) => number,
+            Refusal::BadLine(_) => 11,
+        }
+    }
+}
+
+/// How many columns, bytes or entries were made, or why none.
+pub type Answer = Result<usize, Refusal>;
 
 mod calls {
     extern "C" {
@@ -42,16 +61,42 @@ mod calls {
             out: *mut u8,
             out_length: usize,
         ) -> u64;
+        pub fn biss_rows_to_text(
+            cdm: *const u8,
+            cdm_length: usize,
+            cds: *const u8,
+            cds_length: usize,
+            out: *mut u8,
+            out_length: usize,
+        ) -> u64;
+        pub fn biss_text_to_rows(
+            text: *const u8,
+            text_length: usize,
+            cdm: *mut u8,
+            cdm_length: usize,
+            cds: *mut u8,
+            cds_length: usize,
+        ) -> u64;
+        pub fn biss_list_to_text(
+            list: *const u8,
+            list_length: usize,
+            out: *mut u8,
+            out_length: usize,
+        ) -> u64;
     }
 }
 
-/// `n` is n made, `(1 << 63) + k` is the refusal k.
+const REFUSED: u64 = 1 << 63;
+const LINE: u64 = 1 << 62;
+
+/// `n` is n made, `REFUSED + k` is the refusal k, `REFUSED + LINE + l` is refusal 11 with the line l.
 fn answer(coded: u64) -> Answer {
-    let number = coded & !(1 << 63);
-    if number == coded {
-        Ok(number as usize)
+    if coded & REFUSED == 0 {
+        Ok(coded as usize)
+    } else if coded & LINE == 0 {
+        Err(Refusal::Number(u8::try_from(coded - REFUSED).unwrap_or(u8::MAX)))
     } else {
-        Err(u8::try_from(number).unwrap_or(u8::MAX))
+        Err(Refusal::BadLine((coded - REFUSED - LINE) as usize))
     }
 }
 
@@ -109,5 +154,37 @@ pub fn read(cdm: &[u8], cds: &[u8], opening: usize, out: &mut [u8]) -> Answer {
             out.as_mut_ptr(),
             out.len(),
         )
+    })
+}
+
+pub fn rows_to_text(cdm: &[u8], cds: &[u8], out: &mut [u8]) -> Answer {
+    answer(unsafe {
+        calls::biss_rows_to_text(
+            cdm.as_ptr(),
+            cdm.len(),
+            cds.as_ptr(),
+            cds.len(),
+            out.as_mut_ptr(),
+            out.len(),
+        )
+    })
+}
+
+pub fn text_to_rows(text: &[u8], cdm: &mut [u8], cds: &mut [u8]) -> Answer {
+    answer(unsafe {
+        calls::biss_text_to_rows(
+            text.as_ptr(),
+            text.len(),
+            cdm.as_mut_ptr(),
+            cdm.len(),
+            cds.as_mut_ptr(),
+            cds.len(),
+        )
+    })
+}
+
+pub fn list_to_text(list: &[u8], out: &mut [u8]) -> Answer {
+    answer(unsafe {
+        calls::biss_list_to_text(list.as_ptr(), list.len(), out.as_mut_ptr(), out.len())
     })
 }

@@ -2,7 +2,7 @@
 
 use crate::library;
 use crate::model;
-use crate::model::Outcome;
+use crate::model::Outcome::{self, Made};
 use std::hint::black_box;
 use std::time::Instant;
 
@@ -57,7 +57,7 @@ fn dense(columns: usize) -> Vec<u8> {
 }
 
 pub fn bench() {
-    println!("ns per column, least of {ROUNDS} interleaved stretches");
+    println!("ns per column, of a printed list per byte; least of {ROUNDS} interleaved stretches");
     println!(
         "{:<16}{:>8}  {:<6}{:>10}{:>10}{:>12}",
         "job", "columns", "row", "model", "library", "lib / model"
@@ -74,6 +74,12 @@ pub fn bench() {
         for (name, row) in [("dense", dense(columns)), ("idle", vec![0; columns])] {
             bench_read(name, &row);
         }
+    }
+    for columns in [46, 4096] {
+        bench_text(&dense(columns));
+    }
+    for columns in [46, 4096] {
+        bench_list(&dense(columns));
     }
 }
 
@@ -145,4 +151,49 @@ fn bench_read(name: &str, cdm: &[u8]) {
     };
     let times = least(cdm.len(), &mut caller(model::read), &mut caller(library::read));
     line("read", cdm.len(), name, times);
+}
+
+type RowsToText = fn(&[u8], &[u8], &mut [u8]) -> Outcome;
+type TextToRows = fn(&[u8], &mut [u8], &mut [u8]) -> Outcome;
+type ListToText = fn(&[u8], &mut [u8]) -> Outcome;
+
+fn bench_text(cdm: &[u8]) {
+    let columns = cdm.len();
+    let mut text = vec![0; 8 + 4 * columns];
+    model::rows_to_text(cdm, cdm, &mut text);
+    let printer = |rows_to_text: RowsToText| {
+        let mut out = vec![0; 8 + 4 * columns];
+        move || {
+            black_box(rows_to_text(black_box(cdm), cdm, &mut out));
+        }
+    };
+    let (model, library) = (model::rows_to_text, library::rows_to_text);
+    line("rows_to_text", columns, "-", least(columns, &mut printer(model), &mut printer(library)));
+    let taker = |text_to_rows: TextToRows| {
+        let (mut first, mut second) = (vec![0; columns], vec![0; columns]);
+        let text = &text;
+        move || {
+            black_box(text_to_rows(black_box(text), &mut first, &mut second));
+        }
+    };
+    let (model, library) = (model::text_to_rows, library::text_to_rows);
+    line("text_to_rows", columns, "-", least(columns, &mut taker(model), &mut taker(library)));
+}
+
+fn bench_list(cdm: &[u8]) {
+    let (mut cds, mut list) = (vec![0; cdm.len()], vec![0; 6 * cdm.len()]);
+    model::run(1, &[3; 128], &mut [0x5A; 128], cdm, &mut cds);
+    let Made(entries) = model::read(cdm, &cds, 0, &mut list) else { unreachable!() };
+    let list = &list[..6 * entries];
+    let mut text = vec![0; 30 + 27 * entries];
+    let Made(bytes) = model::list_to_text(list, &mut text) else { unreachable!() };
+    let printer = |list_to_text: ListToText| {
+        let mut out = vec![0; bytes];
+        move || {
+            black_box(list_to_text(black_box(list), &mut out));
+        }
+    };
+    let times =
+        least(bytes, &mut printer(model::list_to_text), &mut printer(library::list_to_text));
+    line(&format!("list, {entries}"), bytes, "-", times);
 }

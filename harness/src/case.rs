@@ -61,11 +61,17 @@ pub struct Case {
     pub lent: Vec<Vec<u8>>,
     /// Only for read.
     pub answers: Option<Answers>,
+    /// What was done to make it, for the counts.
+    pub marks: Vec<&'static str>,
 }
 
 impl Case {
     pub fn new(job: Job, numbers: Vec<usize>, lent: Vec<Vec<u8>>) -> Case {
-        Case { job, numbers, lent, answers: None }
+        Case { job, numbers, lent, answers: None, marks: Vec::new() }
+    }
+
+    pub fn marked(self, marks: Vec<&'static str>) -> Case {
+        Case { marks, ..self }
     }
 }
 
@@ -90,9 +96,9 @@ pub fn call_model(job: Job, numbers: &[usize], lent: &mut [&mut [u8]]) -> Outcom
     }
 }
 
-/// Calls the library; none for the jobs that it does not have yet.
-pub fn call_library(job: Job, numbers: &[usize], lent: &mut [&mut [u8]]) -> Option<Outcome> {
-    let outcome = match (job, numbers, lent) {
+/// Calls the library; the slices are those of the job's form.
+pub fn call_library(job: Job, numbers: &[usize], lent: &mut [&mut [u8]]) -> Outcome {
+    match (job, numbers, lent) {
         (Job::BuildRead, &[id, address, count], [out]) => {
             library::build_read(id as u8, address as u8, count, out)
         }
@@ -106,7 +112,9 @@ pub fn call_library(job: Job, numbers: &[usize], lent: &mut [&mut [u8]]) -> Opti
             library::run(slaves, rights, registers, cdm, cds)
         }
         (Job::Read, &[opening], [cdm, cds, out]) => library::read(cdm, cds, opening, out),
-        _ => return None,
-    };
-    Some(outcome)
+        (Job::TextToRows, [], [text, cdm, cds]) => library::text_to_rows(text, cdm, cds),
+        (Job::RowsToText, [], [cdm, cds, out]) => library::rows_to_text(cdm, cds, out),
+        (Job::ListToText, [], [list, out]) => library::list_to_text(list, out),
+        _ => unreachable!("a case has the form of its job"),
+    }
 }

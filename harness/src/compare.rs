@@ -40,12 +40,12 @@ impl Lent {
 }
 
 /// What a call returned and left.
-struct Left<T> {
-    outcome: T,
+struct Left {
+    outcome: Outcome,
     lent: Vec<Lent>,
 }
 
-fn call<T>(case: &Case, job: fn(Job, &[usize], &mut [&mut [u8]]) -> T) -> Left<T> {
+fn call(case: &Case, job: fn(Job, &[usize], &mut [&mut [u8]]) -> Outcome) -> Left {
     let mut lent: Vec<Lent> = case.lent.iter().map(|slice| Lent::copy(slice)).collect();
     let mut slices: Vec<&mut [u8]> = lent.iter_mut().map(Lent::slice_mut).collect();
     let outcome = job(case.job, &case.numbers, &mut slices);
@@ -70,18 +70,14 @@ fn first_byte(case: &Case, model: &[Lent], library: &[Lent]) -> Option<String> {
 }
 
 /// The difference between model and library, if there is one.
-fn difference(
-    case: &Case,
-    model: &Left<Outcome>,
-    library: &Left<Option<Outcome>>,
-) -> Option<String> {
-    let outcome = library.outcome?;
+fn difference(case: &Case, model: &Left, library: &Left) -> Option<String> {
     let byte = first_byte(case, &model.lent, &library.lent);
-    if outcome == model.outcome && byte.is_none() {
+    if library.outcome == model.outcome && byte.is_none() {
         return None;
     }
     let bytes = byte.unwrap_or("all lent bytes are equal".to_string());
-    Some(format!("the model says {:?}, the library {outcome:?}; {bytes}", model.outcome))
+    let (wanted, got) = (model.outcome, library.outcome);
+    Some(format!("the model says {wanted:?}, the library {got:?}; {bytes}"))
 }
 
 /// Compares one case; gives the model's outcome and the first bytes it left in
@@ -109,15 +105,13 @@ pub fn describe(case: &Case) -> String {
         text.push_str(&format!("  {name}, {} bytes: {}\n", slice.len(), shown(name, slice)));
     }
     text.push_str(&format!("  model   says {:?}\n", call(case, call_model).outcome));
-    match call(case, call_library).outcome {
-        Some(outcome) => text.push_str(&format!("  library says {outcome:?}\n")),
-        None => text.push_str("  the library does not have this job\n"),
-    }
+    text.push_str(&format!("  library says {:?}\n", call(case, call_library).outcome));
     text.push_str(&results(case));
     text
 }
 
-/// The answer rows of a run, or the lists of a read given all the room it needs.
+/// What a job made: answer rows, lists or texts. A read is given all the room
+/// it needs.
 fn results(case: &Case) -> String {
     let mut roomy = case.clone();
     if case.job == Job::Read {
@@ -125,22 +119,24 @@ fn results(case: &Case) -> String {
     }
     let model = call(&roomy, call_model);
     let library = call(&roomy, call_library);
-    let both =
-        [("model", Some(model.outcome), model.lent), ("library", library.outcome, library.lent)];
     let mut text = String::new();
-    for (who, outcome, lent) in both {
-        match (case.job, outcome) {
-            (Job::Read, Some(Made(made))) => {
-                text.push_str(&format!("list of the {who}:\n{}", printed(lent[2].slice(), made)));
-            }
-            (Job::Run, Some(Made(_))) => {
-                let cds = shown("cds", lent[3].slice());
-                text.push_str(&format!("  cds after the {who:<7}: {cds}\n"));
-            }
-            _ => {}
-        }
+    for (who, left) in [("model", model), ("library", library)] {
+        let Made(made) = left.outcome else { continue };
+        let lent = |place: usize| left.lent[place].slice();
+        let shown = match case.job {
+            Job::Run => format!("  cds after the {who:<7}: {}\n", shown("cds", lent(3))),
+            Job::Read => format!("list of the {who}:\n{}", printed(lent(2), made)),
+            Job::RowsToText => format!("text of the {who}:\n{}", text_of(lent(2), made)),
+            Job::ListToText => format!("text of the {who}:\n{}", text_of(lent(1), made)),
+            _ => String::new(),
+        };
+        text.push_str(&shown);
     }
     text
+}
+
+fn text_of(bytes: &[u8], made: usize) -> String {
+    String::from_utf8_lossy(&bytes[..made.min(bytes.len())]).to_string()
 }
 
 /// Rows as digits where they hold 0 and 1, all else in hex, repeats shortened.
@@ -148,6 +144,9 @@ fn shown(name: &str, slice: &[u8]) -> String {
     let is_row = (name == "cdm" || name == "cds") && slice.iter().all(|&byte| byte < 2);
     if is_row {
         return slice.iter().map(|byte| char::from(b'0' + byte)).collect();
+    }
+    if name == "text" {
+        return format!("\"{}\"", slice.escape_ascii());
     }
     if slice.len() > 1 && slice.iter().all(|&byte| byte == slice[0]) {
         return format!("all {:02x}", slice[0]);

@@ -1,9 +1,15 @@
-//! How often each entry kind and each refusal came up.
+//! How often each entry kind, each refusal, each phase and each way to make a
+//! case came up.
 
 use crate::case::{Answers, Case, Job, JOBS};
 use crate::conditions::conditions;
+use crate::generate::marks;
+use crate::model::chain;
 use crate::model::entry::{ENTRY_BYTES, FORMS};
+use crate::model::list;
+use crate::model::phase::{Met, PHASES};
 use crate::model::Outcome::{self, BadLine, Made, Refused};
+use std::collections::BTreeMap;
 
 const LEAST: u64 = 100;
 const KINDS: usize = 17;
@@ -22,6 +28,13 @@ pub struct Counts {
     odd_at_64th: [u64; 3],
     /// Lock values, by sort of answers.
     locks: [[u64; 10]; 3],
+    /// Kinds of lists that were printed.
+    printed: [u64; KINDS],
+    /// Rows in which a slave, or the reader, met a phase.
+    slave_phases: [u64; PHASES.len()],
+    reader_phases: [u64; PHASES.len()],
+    /// By job and what was done to make the case.
+    marks: BTreeMap<(usize, &'static str), u64>,
     made: [u64; JOBS.len()],
     /// By job and number.
     refused: [[u64; NUMBERS]; JOBS.len()],
@@ -55,6 +68,10 @@ impl Counts {
             odd_at_127: [0; 3],
             odd_at_64th: [0; 3],
             locks: [[0; 10]; 3],
+            printed: [0; KINDS],
+            slave_phases: [0; PHASES.len()],
+            reader_phases: [0; PHASES.len()],
+            marks: BTreeMap::new(),
             made: [0; JOBS.len()],
             refused: [[0; NUMBERS]; JOBS.len()],
             alone: [[0; NUMBERS]; JOBS.len()],
@@ -66,15 +83,39 @@ impl Counts {
     pub fn count(&mut self, case: &Case, outcome: Outcome, last: &[u8]) {
         self.cases += 1;
         let job = place(case.job);
+        for &mark in &case.marks {
+            *self.marks.entry((job, mark)).or_insert(0) += 1;
+        }
         match outcome {
             Made(made) => {
                 self.made[job] += 1;
-                if let Some(answers) = case.answers {
-                    self.count_list(answers, &last[..ENTRY_BYTES * made]);
-                }
+                self.count_made(case, made, last);
             }
             Refused(number) => self.count_refusal(case, usize::from(number)),
             BadLine(_) => self.count_refusal(case, 11),
+        }
+    }
+
+    fn count_made(&mut self, case: &Case, made: usize, last: &[u8]) {
+        let (numbers, lent) = (&case.numbers, &case.lent);
+        if let Some(answers) = case.answers {
+            self.count_list(answers, &last[..ENTRY_BYTES * made]);
+        }
+        match case.job {
+            Job::Run => {
+                let met = chain::phases(&lent[0], &mut lent[1].clone(), &lent[2]);
+                count_phases(&mut self.slave_phases, &met);
+            }
+            Job::Read => {
+                let met = list::phases(&lent[0], &lent[1], numbers[0]);
+                count_phases(&mut self.reader_phases, &met);
+            }
+            Job::ListToText => {
+                for entry in lent[0].chunks(ENTRY_BYTES) {
+                    self.printed[usize::from(entry[0])] += 1;
+                }
+            }
+            _ => {}
         }
     }
 
@@ -113,6 +154,12 @@ impl Counts {
         sum(&mut self.odd_at_127, &other.odd_at_127);
         sum(&mut self.odd_at_64th, &other.odd_at_64th);
         sum(self.locks.as_flattened_mut(), other.locks.as_flattened());
+        sum(&mut self.printed, &other.printed);
+        sum(&mut self.slave_phases, &other.slave_phases);
+        sum(&mut self.reader_phases, &other.reader_phases);
+        for (&mark, count) in &other.marks {
+            *self.marks.entry(mark).or_insert(0) += count;
+        }
         sum(&mut self.made, &other.made);
         sum(self.refused.as_flattened_mut(), other.refused.as_flattened());
         sum(self.alone.as_flattened_mut(), other.alone.as_flattened());
@@ -136,6 +183,15 @@ impl Counts {
                 lines.push((format!("{answers:?} lock {lock}"), self.locks[sort][lock], true));
             }
         }
+        for kind in 1..KINDS {
+            lines.push((format!("printed {}", FORMS[kind - 1].name), self.printed[kind], true));
+        }
+        for phase in PHASES {
+            let (slave, reader) =
+                (self.slave_phases[phase as usize], self.reader_phases[phase as usize]);
+            lines.push((format!("slave at {phase:?}"), slave, true));
+            lines.push((format!("reader at {phase:?}"), reader, true));
+        }
         for job in JOBS {
             self.lines_of_job(job, &mut lines);
         }
@@ -145,6 +201,9 @@ impl Counts {
     fn lines_of_job(&self, job: Job, lines: &mut Vec<(String, u64, bool)>) {
         let (name, at) = (job.name(), place(job));
         lines.push((format!("{name} made"), self.made[at], true));
+        for mark in marks(job) {
+            lines.push((format!("{name} {mark}"), self.marked(job, mark), true));
+        }
         for (order, &number) in numbers(job).iter().enumerate() {
             lines.push((format!("{name} refused {number}"), self.refused[at][number], true));
             lines.push((format!("{name} {number} alone"), self.alone[at][number], true));
@@ -153,6 +212,10 @@ impl Counts {
                 lines.push((format!("{name} {number} with {later}"), together, true));
             }
         }
+    }
+
+    fn marked(&self, job: Job, mark: &'static str) -> u64 {
+        self.marks.get(&(place(job), mark)).copied().unwrap_or(0)
     }
 
     /// The names of counts that should be reached and are under the least.
@@ -170,20 +233,31 @@ impl Counts {
     }
 
     pub fn table(&self) -> String {
-        let mut text =
-            format!("{:<16}{:>10}{:>10}{:>10}\n", "entries", "honest", "damaged", "random");
-        let mut row = |name: &str, counts: [u64; 3]| {
+        let mut text = format!(
+            "{:<16}{:>10}{:>10}{:>10}{:>10}\n",
+            "entries", "honest", "damaged", "random", "printed"
+        );
+        let mut row = |name: &str, counts: [u64; 3], printed: &str| {
             let [honest, damaged, random] = counts;
-            text.push_str(&format!("{name:<16}{honest:>10}{damaged:>10}{random:>10}\n"));
+            text.push_str(&format!(
+                "{name:<16}{honest:>10}{damaged:>10}{random:>10}{printed:>10}\n"
+            ));
         };
         for kind in 1..KINDS {
             let name = format!("{kind:>2} {}", FORMS[kind - 1].name);
-            row(&name, [0, 1, 2].map(|sort| self.kinds[sort][kind]));
+            let printed = self.printed[kind].to_string();
+            row(&name, [0, 1, 2].map(|sort| self.kinds[sort][kind]), &printed);
         }
-        row("   odd at 127", self.odd_at_127);
-        row("   odd at 64th", self.odd_at_64th);
+        row("   odd at 127", self.odd_at_127, "");
+        row("   odd at 64th", self.odd_at_64th, "");
         for lock in 0..10 {
-            row(&format!("   lock {lock}"), [0, 1, 2].map(|sort| self.locks[sort][lock]));
+            row(&format!("   lock {lock}"), [0, 1, 2].map(|sort| self.locks[sort][lock]), "");
+        }
+        text.push_str(&format!("\n{:<16}{:>10}{:>10}\n", "phases", "slave", "reader"));
+        for phase in PHASES {
+            let (slave, reader) =
+                (self.slave_phases[phase as usize], self.reader_phases[phase as usize]);
+            text.push_str(&format!("{:<16}{slave:>10}{reader:>10}\n", format!("   {phase:?}")));
         }
         for job in JOBS {
             text.push_str(&self.job_row(job));
@@ -203,6 +277,17 @@ impl Counts {
             }
             text.push('\n');
         }
+        for marks in marks(job).chunks(6) {
+            let counts: Vec<String> =
+                marks.iter().map(|mark| format!("{mark} {}", self.marked(job, mark))).collect();
+            text.push_str(&format!("  {}\n", counts.join(", ")));
+        }
         text
+    }
+}
+
+fn count_phases(counts: &mut [u64], met: &Met) {
+    for phase in PHASES {
+        counts[phase as usize] += u64::from(met.has(phase));
     }
 }

@@ -3,6 +3,7 @@
 mod chains;
 mod random;
 mod rows;
+mod texts;
 
 use crate::case::{Case, Job};
 use crate::model;
@@ -23,13 +24,13 @@ pub fn case(seed: u64) -> Case {
     let mut random = Random::from_seed(seed);
     let random = &mut random;
     match random.below(100) {
-        0..=3 => build_read(random),
-        4..=7 => build_write(random),
-        8..=10 => build_command(random),
-        11..=49 => run(random),
-        50..=88 => read(random),
-        89..=92 => text_to_rows(random),
-        93..=96 => rows_to_text(random),
+        0..=2 => build_read(random),
+        3..=5 => build_write(random),
+        6..=7 => build_command(random),
+        8..=38 => run(random),
+        39..=69 => read(random),
+        70..=80 => text_to_rows(random),
+        81..=89 => rows_to_text(random),
         _ => list_to_text(random),
     }
 }
@@ -43,14 +44,43 @@ fn faults(random: &mut Random, numbers: &[u8]) -> Vec<u8> {
     }
 }
 
+/// What a buffer for a result is marked with.
+const ROOMS: [&str; 5] = ["exact room", "more room", "one short", "shorter", "no room"];
+
+/// What a text is marked with.
+const COLUMNS: [&str; 5] =
+    ["header alone", "some columns", "4096 columns", "4097 columns", "more columns"];
+
+/// The marks that each job's cases must have.
+pub fn marks(job: Job) -> Vec<&'static str> {
+    match job {
+        Job::Run => Vec::new(),
+        Job::TextToRows => [&COLUMNS[..], &texts::DAMAGES, &ROOMS].concat(),
+        Job::ListToText => [&texts::LIST_FAULTS[..], &ROOMS].concat(),
+        _ => ROOMS.to_vec(),
+    }
+}
+
 /// A buffer for a result of `needed` bytes: exact, larger, or too small.
-fn room(random: &mut Random, needed: usize, too_small: bool) -> Vec<u8> {
+fn room(
+    random: &mut Random,
+    marks: &mut Vec<&'static str>,
+    needed: usize,
+    too_small: bool,
+) -> Vec<u8> {
     let length = if too_small && needed > 0 {
         let less = random.below(needed);
         random.pick(&[0, needed - 1, needed - 1, less])
     } else {
         needed + random.pick(&[0, 0, 0, 1, 5, 6, 7, 100])
     };
+    marks.push(match length {
+        _ if length == needed => "exact room",
+        _ if length > needed => "more room",
+        0 => "no room",
+        _ if length + 1 == needed => "one short",
+        _ => "shorter",
+    });
     random.bytes(length)
 }
 
@@ -97,16 +127,18 @@ fn access(random: &mut Random, bad: bool) -> (usize, usize, usize) {
 fn build_read(random: &mut Random) -> Case {
     let faults = faults(random, &[10, 9]);
     let (id, address, count) = access(random, faults.contains(&10));
-    let out = room(random, 32 + 14 * count.min(100), faults.contains(&9));
-    Case::new(Job::BuildRead, vec![id, address, count], vec![out])
+    let mut marks = Vec::new();
+    let out = room(random, &mut marks, 32 + 14 * count.min(100), faults.contains(&9));
+    Case::new(Job::BuildRead, vec![id, address, count], vec![out]).marked(marks)
 }
 
 fn build_write(random: &mut Random) -> Case {
     let faults = faults(random, &[10, 9]);
     let (id, address, count) = access(random, faults.contains(&10));
     let bytes = random.bytes(count.min(1000));
-    let out = room(random, 32 + 14 * bytes.len(), faults.contains(&9));
-    Case::new(Job::BuildWrite, vec![id, address], vec![bytes, out])
+    let mut marks = Vec::new();
+    let out = room(random, &mut marks, 32 + 14 * bytes.len(), faults.contains(&9));
+    Case::new(Job::BuildWrite, vec![id, address], vec![bytes, out]).marked(marks)
 }
 
 fn build_command(random: &mut Random) -> Case {
@@ -114,8 +146,9 @@ fn build_command(random: &mut Random) -> Case {
     let ids = if random.one_in(4) { 0 } else { random.below(256) };
     let bad = random.pick(&[4, 5, 6, 7, 8, 64, 128, 255]);
     let cmd = if faults.contains(&10) { bad } else { random.below(4) };
-    let out = room(random, 30, faults.contains(&9));
-    Case::new(Job::BuildCommand, vec![ids, cmd], vec![out])
+    let mut marks = Vec::new();
+    let out = room(random, &mut marks, 30, faults.contains(&9));
+    Case::new(Job::BuildCommand, vec![ids, cmd], vec![out]).marked(marks)
 }
 
 /// A master row and a length for its answer row; 5 and 6 as asked for.
@@ -201,70 +234,56 @@ fn read(random: &mut Random) -> Case {
     }
     let can_be_read = !faults.iter().any(|&number| number < 9);
     let entries = if can_be_read { list(&rows.cdm, &rows.cds, opening).len() } else { 10 };
-    let out = room(random, ENTRY_BYTES * entries, faults.contains(&9));
-    let mut case = Case::new(Job::Read, vec![opening], vec![rows.cdm, rows.cds, out]);
+    let mut marks = Vec::new();
+    let out = room(random, &mut marks, ENTRY_BYTES * entries, faults.contains(&9));
+    let lent = vec![rows.cdm, rows.cds, out];
+    let mut case = Case::new(Job::Read, vec![opening], lent).marked(marks);
     case.answers = Some(rows.answers);
     case
 }
 
-fn text_of(cdm: &[u8], cds: &[u8]) -> Vec<u8> {
-    let mut text = vec![0; 8 + 4 * cdm.len()];
-    model::rows_to_text(cdm, cds, &mut text);
-    text
-}
-
 fn text_to_rows(random: &mut Random) -> Case {
     let faults = faults(random, &[11, 5, 9]);
-    let mut rows = recording(random);
-    let mut text = text_of(&rows.cdm, &rows.cds);
+    let mut marks = Vec::new();
+    let (mut text, mut columns) = texts::text(random);
     if faults.contains(&5) {
-        for _ in rows.cdm.len()..=4096 + random.below(3) {
-            rows.cdm.push(0);
-            text.extend_from_slice(b"0\t1\n");
-        }
+        columns = texts::lengthen(random, &mut text);
     }
+    marks.push(match columns {
+        0 => "header alone",
+        1..=4095 => "some columns",
+        4096 => "4096 columns",
+        4097 => "4097 columns",
+        _ => "more columns",
+    });
     if faults.contains(&11) {
-        let place = random.below(text.len());
-        match random.below(4) {
-            0 => text.truncate(place),
-            1 => text[place] = random.pick(b"01\t\n 2a\r\0"),
-            2 => text.insert(place, random.pick(b"01\t\n 2a\r\0")),
-            _ => drop(text.remove(place)),
-        }
+        marks.extend(texts::damage(random, &mut text));
     }
-    let columns = rows.cdm.len();
     let which = random.below(3);
-    let cdm = room(random, columns, faults.contains(&9) && which != 0);
-    let cds = room(random, columns, faults.contains(&9) && which != 1);
-    Case::new(Job::TextToRows, vec![], vec![text, cdm, cds])
+    let cdm = room(random, &mut marks, columns, faults.contains(&9) && which != 0);
+    let cds = room(random, &mut marks, columns, faults.contains(&9) && which != 1);
+    Case::new(Job::TextToRows, vec![], vec![text, cdm, cds]).marked(marks)
 }
 
 fn rows_to_text(random: &mut Random) -> Case {
     let faults = faults(random, &[5, 6, 7, 9]);
+    let mut marks = Vec::new();
     let rows = spoiled_recording(random, &faults);
-    let out = room(random, 8 + 4 * rows.cdm.len(), faults.contains(&9));
-    Case::new(Job::RowsToText, vec![], vec![rows.cdm, rows.cds, out])
+    let out = room(random, &mut marks, 8 + 4 * rows.cdm.len(), faults.contains(&9));
+    Case::new(Job::RowsToText, vec![], vec![rows.cdm, rows.cds, out]).marked(marks)
 }
 
 fn list_to_text(random: &mut Random) -> Case {
     let faults = faults(random, &[12, 9]);
-    let entries = random.below(30);
-    let mut list = random.bytes(ENTRY_BYTES * entries);
-    for entry in list.chunks_mut(ENTRY_BYTES) {
-        entry[0] = random.between(1, 16) as u8;
-    }
-    let mut room_for_text = vec![0; 30 + 40 * entries];
-    let model::Outcome::Made(needed) = model::list_to_text(&list, &mut room_for_text) else {
-        unreachable!("all kinds are within 1 to 16");
+    let mut list = texts::list_bytes(random);
+    let mut ample = vec![0; 30 + 27 * list.len() / ENTRY_BYTES];
+    let model::Outcome::Made(needed) = model::list_to_text(&list, &mut ample) else {
+        unreachable!("all kinds are within 1 to 16, and no line is longer than 27 bytes");
     };
+    let mut marks = Vec::new();
     if faults.contains(&12) {
-        if entries > 0 && random.one_in(2) {
-            list[ENTRY_BYTES * random.below(entries)] = random.pick(&[0, 17, 18, 255]);
-        } else {
-            let extra = random.between(1, 5);
-            list.resize(ENTRY_BYTES * entries + extra, 1);
-        }
+        marks = texts::spoil_list(random, &mut list);
     }
-    let out = room(random, needed, faults.contains(&9));
-    Case::new(Job::ListToText, vec![], vec![list, out])
+    let out = room(random, &mut marks, needed, faults.contains(&9));
+    Case::new(Job::ListToText, vec![], vec![list, out]).marked(marks)
 }

@@ -4,26 +4,32 @@
 //! they go to the model, so that the comparison can be tried on itself.
 
 #[cfg(not(feature = "linked"))]
-pub use crate::model::{build_command, build_read, build_write, read, run};
+pub use crate::model::{
+    build_command, build_read, build_write, list_to_text, read, rows_to_text, run, text_to_rows,
+};
 
 #[cfg(feature = "linked")]
-pub use linked::{build_command, build_read, build_write, read, run};
+pub use linked::{
+    build_command, build_read, build_write, list_to_text, read, rows_to_text, run, text_to_rows,
+};
 
 pub const NAME: &str = if cfg!(feature = "linked") { "library" } else { "model itself" };
 
 #[cfg(feature = "linked")]
 #[path = "../../include/biss.rs"]
+#[allow(dead_code)]
 mod biss;
 
 #[cfg(feature = "linked")]
 mod linked {
-    use super::biss::{self, Answer};
-    use crate::model::Outcome::{self, Made, Refused};
+    use super::biss::{self, Answer, Refusal};
+    use crate::model::Outcome::{self, BadLine, Made, Refused};
 
     fn outcome(answer: Answer) -> Outcome {
         match answer {
             Ok(made) => Made(made),
-            Err(number) => Refused(number),
+            Err(Refusal::Number(number)) => Refused(number),
+            Err(Refusal::BadLine(line)) => BadLine(line),
         }
     }
 
@@ -51,5 +57,17 @@ mod linked {
 
     pub fn read(cdm: &[u8], cds: &[u8], opening: usize, out: &mut [u8]) -> Outcome {
         outcome(biss::read(cdm, cds, opening, out))
+    }
+
+    pub fn rows_to_text(cdm: &[u8], cds: &[u8], out: &mut [u8]) -> Outcome {
+        outcome(biss::rows_to_text(cdm, cds, out))
+    }
+
+    pub fn text_to_rows(text: &[u8], cdm: &mut [u8], cds: &mut [u8]) -> Outcome {
+        outcome(biss::text_to_rows(text, cdm, cds))
+    }
+
+    pub fn list_to_text(list: &[u8], out: &mut [u8]) -> Outcome {
+        outcome(biss::list_to_text(list, out))
     }
 }

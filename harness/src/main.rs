@@ -19,11 +19,11 @@ use std::sync::atomic::{AtomicBool, AtomicU64, Ordering};
 use std::thread;
 use std::time::{Duration, Instant};
 
-const USUAL_CASES: u64 = 400_000;
+const USUAL_CASES: u64 = 600_000;
 const THREADS: u64 = 2;
 
 const HELP: &str = "\
-harness                   the bench card on the model, then 400,000 cases
+harness                   the bench card on the model, then 600,000 cases
 harness soak N [FIRST]    N thousand cases from seed FIRST (default 1000000)
 harness seed S            one case, shown
 harness watch FIRST N     N cases on one thread, each seed printed before it
@@ -33,8 +33,8 @@ harness selftest          the bench card on the model
 harness --help            this text
 
 Exit status 0 if model and library never differ, the model keeps its own
-promises and every count of entries and refusals is at least 100 (the last not
-asked of soak under 400, seed and watch).";
+promises and every count of entries, refusals, phases and ways to make a case is
+at least 100 (the last not asked of soak under 600, seed and watch).";
 
 /// What stopped the cases.
 struct Failure {

@@ -7,6 +7,7 @@ pub mod check;
 pub mod entry;
 pub mod frame;
 pub mod list;
+pub mod phase;
 pub mod reader;
 pub mod replay;
 pub mod rows;

@@ -35,6 +35,7 @@ pub fn selftest() -> (usize, Vec<String>) {
     easy_errors(&mut card);
     easy_answers(&mut card);
     texts(&mut card);
+    lists(&mut card);
     (card.tried, card.failed)
 }
 
@@ -203,6 +204,20 @@ fn texts(card: &mut Card) {
     let mut text = [0; 16];
     card.same("rows to text", rows_to_text(&[0, 1], &[1, 0], &mut text), Made(16));
     card.same("its bytes", &text, b"cdm\tcds\n0\t1\n1\t0\n");
+}
+
+fn lists(card: &mut Card) {
+    let mut text = [9; 60];
+    let entry = [10, 1, 0, 0, 68, 90];
+    card.same("a printed list", list_to_text(&entry, &mut text), Made(47));
+    let wanted = b"event\tcolumn\tid\taddress\tvalue\nread\t256\t0\t68\t90\n";
+    card.same("its bytes", &text[..48], &[&wanted[..], &[9]].concat()[..]);
+    card.same("an empty list", list_to_text(&[], &mut text), Made(30));
+    card.same("one byte short", list_to_text(&entry, &mut text[..46]), Refused(9));
+    card.same("five bytes", list_to_text(&entry[..5], &mut text), Refused(12));
+    card.same("kind 0", list_to_text(&[0; 6], &mut text), Refused(12));
+    card.same("kind 17", list_to_text(&[17; 6], &mut text), Refused(12));
+    card.same("12 before 9", list_to_text(&[17; 6], &mut []), Refused(12));
 }
 
 #[cfg(test)]

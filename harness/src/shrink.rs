@@ -1,22 +1,26 @@
 //! Makes a failing case small.
 
 use crate::case::{Case, Job};
+use crate::model::entry::ENTRY_BYTES;
 
-/// The places of a job's two rows among its lent slices.
-fn rows(job: Job) -> &'static [usize] {
+/// The slices of a job that get shorter together, and how many bytes at once:
+/// two rows, a text's lines, a list's entries.
+fn pieces(job: Job) -> (&'static [usize], usize) {
     match job {
-        Job::Run => &[2, 3],
-        Job::Read | Job::RowsToText => &[0, 1],
-        _ => &[],
+        Job::Run => (&[2, 3], 1),
+        Job::Read | Job::RowsToText => (&[0, 1], 1),
+        Job::TextToRows => (&[0], 4),
+        Job::ListToText => (&[0], ENTRY_BYTES),
+        Job::BuildRead | Job::BuildWrite | Job::BuildCommand => (&[], 1),
     }
 }
 
-/// The case without columns `from` to `to` - 1 in both rows.
-fn without_columns(case: &Case, from: usize, to: usize) -> Case {
+/// The case without bytes `from` to `to` - 1 in these slices.
+fn without_bytes(case: &Case, slices: &[usize], from: usize, to: usize) -> Case {
     let mut smaller = case.clone();
-    for &row in rows(case.job) {
-        let length = smaller.lent[row].len();
-        smaller.lent[row].drain(from.min(length)..to.min(length));
+    for &slice in slices {
+        let length = smaller.lent[slice].len();
+        smaller.lent[slice].drain(from.min(length)..to.min(length));
     }
     if case.job == Job::Read && case.numbers[0] > from {
         let before_opening = case.numbers[0].min(to) - from;
@@ -49,14 +53,17 @@ struct Shrinker<'a> {
 /// A small case that still fails.
 pub fn shrink(case: &Case, fails: &dyn Fn(&Case) -> bool) -> Case {
     let mut shrinker = Shrinker { case: case.clone(), fails };
+    let (slices, unit) = pieces(case.job);
     for _ in 0..4 {
-        let columns_dropped = shrinker.drop_columns();
-        let slaves_dropped = shrinker.drop_slaves();
+        let mut dropped = shrinker.drop_bytes(slices, unit);
+        dropped |= unit > 1 && shrinker.drop_bytes(slices, 1);
+        dropped |= shrinker.drop_slaves();
         shrinker.simplify_bytes();
-        if !columns_dropped && !slaves_dropped {
+        if !dropped {
             break;
         }
     }
+    shrinker.shorten_room();
     shrinker.case
 }
 
@@ -69,35 +76,60 @@ impl Shrinker<'_> {
         fails
     }
 
-    fn columns(&self) -> usize {
-        rows(self.case.job).iter().map(|&row| self.case.lent[row].len()).max().unwrap_or(0)
+    fn keep_if_failing_without(&mut self, slices: &[usize], from: usize, to: usize) -> bool {
+        self.keep_if_failing(without_bytes(&self.case, slices, from, to))
     }
 
-    /// Drops columns from the end, from the front and from between.
-    fn drop_columns(&mut self) -> bool {
+    fn longest(&self, slices: &[usize]) -> usize {
+        slices.iter().map(|&slice| self.case.lent[slice].len()).max().unwrap_or(0)
+    }
+
+    /// Drops pieces of these slices from the end, from the front and from
+    /// between; a piece is a number of units.
+    fn drop_bytes(&mut self, slices: &[usize], unit: usize) -> bool {
         let mut any = false;
-        let mut size = self.columns();
+        let mut size = self.longest(slices) / unit * unit;
         while size > 0 {
-            while size <= self.columns() && self.drop_from_end_or_front(size) {
+            while size <= self.longest(slices) && self.drop_from_end_or_front(slices, size) {
                 any = true;
             }
             let mut from = 0;
-            while from + size <= self.columns() && size <= 64 {
-                if self.keep_if_failing(without_columns(&self.case, from, from + size)) {
+            while from + size <= self.longest(slices) && size <= 64 * unit {
+                if self.keep_if_failing_without(slices, from, from + size) {
                     any = true;
                 } else {
                     from += size;
                 }
             }
-            size /= 2;
+            size = size / unit / 2 * unit;
         }
         any
     }
 
-    fn drop_from_end_or_front(&mut self, size: usize) -> bool {
-        let columns = self.columns();
-        self.keep_if_failing(without_columns(&self.case, columns - size, columns))
-            || self.keep_if_failing(without_columns(&self.case, 0, size))
+    fn drop_from_end_or_front(&mut self, slices: &[usize], size: usize) -> bool {
+        let longest = self.longest(slices);
+        self.keep_if_failing_without(slices, longest - size, longest)
+            || self.keep_if_failing_without(slices, 0, size)
+    }
+
+    /// Shortens the buffers that a result goes into.
+    fn shorten_room(&mut self) {
+        let rooms: &[usize] = match self.case.job {
+            Job::Run => &[],
+            Job::TextToRows => &[1, 2],
+            _ => &[self.case.lent.len() - 1],
+        };
+        for &room in rooms {
+            let mut size = self.case.lent[room].len();
+            while size > 0 {
+                let length = self.case.lent[room].len();
+                let shorter =
+                    size <= length && self.keep_if_failing_without(&[room], length - size, length);
+                if !shorter {
+                    size /= 2;
+                }
+            }
+        }
     }
 
     fn drop_slaves(&mut self) -> bool {
@@ -108,10 +140,14 @@ impl Shrinker<'_> {
         (0..slaves).any(|fewer| self.keep_if_failing(with_slaves(&self.case, fewer)))
     }
 
-    /// Zeroes bytes; whole slices first, rights to 3.
+    /// Zeroes bytes; whole slices first. Rights go to 3, a text's bytes to `0`.
     fn simplify_bytes(&mut self) {
         for slice in 0..self.case.lent.len() {
-            let plain = if self.case.job == Job::Run && slice == 0 { 3 } else { 0 };
+            let plain = match (self.case.job, slice) {
+                (Job::Run, 0) => 3,
+                (Job::TextToRows, 0) => b'0',
+                _ => 0,
+            };
             let mut all = self.case.clone();
             all.lent[slice].fill(plain);
             if self.keep_if_failing(all) {

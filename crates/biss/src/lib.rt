@@ -1,20 +1,26 @@
-// The jobs as C and Rust call them: numbers, and a slice as a pointer and a length. Each answers one number: how many columns or
-// entries were made, or 2 ^ 63 and the number of the refusal.
+// The jobs as C and Rust call them: numbers, and a slice as a pointer and a length. Each answers one number: how many columns, bytes
+// or entries were made, or 2 ^ 63 and the number of the refusal; for a text's bad line, 2 ^ 63 + 2 ^ 62 and the line.
 ghost use mathlib.Core.Path.{_≡_};
 ghost use Rattle.line.specs.Building.{Request};
 ghost use Rattle.build.specs.Build.{Built};
 ghost use Rattle.run.specs.Run.{Ran};
 ghost use Rattle.read.specs.Read.{Listed};
-ghost use Rattle.biss.specs.Coded.{codeOf, Coded};
+ghost use Rattle.carry.specs.Carry.{RowsPrinted, RowsTaken};
+ghost use Rattle.entries.specs.Lists.{ListPrinted};
+ghost use Rattle.biss.specs.Coded.{codeOf, outcomeCode, Fits, Coded};
+use carry::Taken;
 use job::Outcome;
 
-// What a refusal's number stands on: no count is as high.
+// What a refusal's number stands on, 2 ^ 63: no count is as high.
 const REFUSED: u64 = 9223372036854775808;
+
+// What the line of refusal 11 stands on, 2 ^ 63 + 2 ^ 62: no other refusal's number is as high.
+const BAD_LINE: u64 = 13835058055282163712;
 
 // The master row of a read of `count` registers of the slave `id`, from `address` on.
 #[no_mangle]
 pub extern "C" fn biss_build_read(id: u8, address: u8, count: usize, out: &mut [u8]) -> u64
-    ensures { λ r. ⌜ Coded r (λ o. Built (Request.read id address count) (now (out .entry)) o (now (out .exit))) ⌝ }
+    ensures { λ r. ⌜ Coded outcomeCode r (λ o. Built (Request.read id address count) (now (out .entry)) o (now (out .exit))) ⌝ }
 {
     coded(build::build_read(id, address, count, out))
 }
@@ -22,7 +28,7 @@ pub extern "C" fn biss_build_read(id: u8, address: u8, count: usize, out: &mut [
 // The master row of a write of `bytes` to the registers of the slave `id`, from `address` on.
 #[no_mangle]
 pub extern "C" fn biss_build_write(id: u8, address: u8, bytes: &[u8], out: &mut [u8]) -> u64
-    ensures { λ r. ⌜ Coded r (λ o. Built (Request.write id address (now (bytes .entry))) (now (out .entry)) o (now (out .exit))) ⌝ }
+    ensures { λ r. ⌜ Coded outcomeCode r (λ o. Built (Request.write id address (now (bytes .entry))) (now (out .entry)) o (now (out .exit))) ⌝ }
 {
     coded(build::build_write(id, address, bytes, out))
 }
@@ -30,7 +36,7 @@ pub extern "C" fn biss_build_write(id: u8, address: u8, bytes: &[u8], out: &mut 
 // The master row of a command.
 #[no_mangle]
 pub extern "C" fn biss_build_command(ids: u8, cmd: u8, out: &mut [u8]) -> u64
-    ensures { λ r. ⌜ Coded r (λ o. Built (Request.command ids cmd) (now (out .entry)) o (now (out .exit))) ⌝ }
+    ensures { λ r. ⌜ Coded outcomeCode r (λ o. Built (Request.command ids cmd) (now (out .entry)) o (now (out .exit))) ⌝ }
 {
     coded(build::build_command(ids, cmd, out))
 }
@@ -44,7 +50,7 @@ pub extern "C" fn biss_run(
     cdm: &[u8],
     cds: &mut [u8],
 ) -> u64
-    ensures { λ r. ⌜ Coded r (λ o. Ran slaves (now (rights .entry)) (now (registers .entry)) (now (cdm .entry)) (now (cds .entry)) o (now (registers .exit)) (now (cds .exit))) ⌝ }
+    ensures { λ r. ⌜ Coded outcomeCode r (λ o. Ran slaves (now (rights .entry)) (now (registers .entry)) (now (cdm .entry)) (now (cds .entry)) o (now (registers .exit)) (now (cds .exit))) ⌝ }
 {
     coded(run::run(slaves, rights, registers, cdm, cds))
 }
@@ -52,16 +58,51 @@ pub extern "C" fn biss_run(
 // The entries that two recorded rows show, from an opening column on.
 #[no_mangle]
 pub extern "C" fn biss_read(cdm: &[u8], cds: &[u8], opening: usize, out: &mut [u8]) -> u64
-    ensures { λ r. ⌜ Coded r (λ o. Listed (now (cdm .entry)) (now (cds .entry)) opening (now (out .entry)) o (now (out .exit))) ⌝ }
+    ensures { λ r. ⌜ Coded outcomeCode r (λ o. Listed (now (cdm .entry)) (now (cds .entry)) opening (now (out .entry)) o (now (out .exit))) ⌝ }
 {
     coded(read::read(cdm, cds, opening, out))
 }
 
+// Two rows as text.
+#[no_mangle]
+pub extern "C" fn biss_rows_to_text(cdm: &[u8], cds: &[u8], out: &mut [u8]) -> u64
+    ensures { λ r. ⌜ Coded outcomeCode r (λ o. RowsPrinted (now (cdm .entry)) (now (cds .entry)) (now (out .entry)) o (now (out .exit))) ⌝ }
+{
+    coded(carry::rows_to_text(cdm, cds, out))
+}
+
+// The two rows of a text.
+#[no_mangle]
+pub extern "C" fn biss_text_to_rows(text: &[u8], cdm: &mut [u8], cds: &mut [u8]) -> u64
+    ensures { λ r. ⌜ Coded codeOf r (λ t. RowsTaken (now (text .entry)) (now (cdm .entry)) (now (cds .entry)) t (now (cdm .exit)) (now (cds .exit))) ⌝ }
+{
+    coded_taken(carry::text_to_rows(text, cdm, cds))
+}
+
+// A list of entries as text.
+#[no_mangle]
+pub extern "C" fn biss_list_to_text(list: &[u8], out: &mut [u8]) -> u64
+    ensures { λ r. ⌜ Coded outcomeCode r (λ o. ListPrinted (now (list .entry)) (now (out .entry)) o (now (out .exit))) ⌝ }
+{
+    coded(entries::list_to_text(list, out))
+}
+
 fn coded(outcome: Outcome) -> u64
-    ensures { λ r. ⌜ r ≡ codeOf outcome ⌝ }
+    ensures { λ r. ⌜ r ≡ outcomeCode outcome ⌝ }
 {
     match outcome {
         Outcome::Made(n) => n as u64,
         Outcome::Refused(k) => REFUSED + k as u64,
+    }
+}
+
+fn coded_taken(taken: Taken) -> u64
+    requires { ⌜ Fits taken ⌝ }
+    ensures { λ r. ⌜ r ≡ codeOf taken ⌝ }
+{
+    match taken {
+        Taken::Columns(n) => n as u64,
+        Taken::Refused(k) => REFUSED + k as u64,
+        Taken::BadLine(l) => BAD_LINE + l as u64,
     }
 }

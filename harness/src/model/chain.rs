@@ -2,6 +2,7 @@
 
 use super::check::{check_bits, check_is_right, BYTE_BITS, HEADER_BITS};
 use super::frame::{BYTE_AND_CHECK, FIRST_LOCK, LAST_HEADER, MOST_BYTES, REGISTERS};
+use super::phase::{of_access, of_header, Met, Phase};
 use super::rows::{has_bad_byte, is_too_long, Zeros};
 use super::Outcome::{self, Made, Refused};
 
@@ -61,6 +62,21 @@ struct Slave<'a> {
 }
 
 impl Slave<'_> {
+    fn phase(&self) -> Phase {
+        match self.awaits {
+            Awaits::Rest => Phase::Deaf,
+            Awaits::Start => Phase::Rest,
+            Awaits::Header { seen, .. } => of_header(seen + 1),
+            Awaits::R { .. } => Phase::R,
+            Awaits::W { .. } => Phase::W,
+            Awaits::ByteStart(a) => of_access(a.writing, Phase::ReadStart, Phase::WriteStart),
+            Awaits::Byte { access: a, .. } => {
+                of_access(a.writing, Phase::ReadBits, Phase::WriteBits)
+            }
+            Awaits::P { access: a, .. } => of_access(a.writing, Phase::ReadP, Phase::WriteP),
+        }
+    }
+
     /// Takes a column's CDM bit and the bit from the far side; gives the bit
     /// for the master's side.
     fn step(&mut self, cdm: u8, seen: u8) -> u8 {
@@ -217,6 +233,30 @@ fn refusal(slaves: usize, rights: &[u8], registers: &[u8], cdm: &[u8], cds: &[u8
     has_bad_byte(cdm).then_some(7)
 }
 
+/// A chain as it is at power-on.
+fn power_on<'a>(rights: &'a [u8], registers: &'a mut [u8]) -> Vec<Slave<'a>> {
+    let each = rights.chunks(REGISTERS).zip(registers.chunks_mut(REGISTERS));
+    each.map(|(rights, registers)| Slave {
+        rights,
+        registers,
+        zeros: Zeros::none_yet(),
+        number: None,
+        awaits: Awaits::Rest,
+    })
+    .collect()
+}
+
+/// The phases that the slaves of a chain meet over a master row.
+pub fn phases(rights: &[u8], registers: &mut [u8], cdm: &[u8]) -> Met {
+    let mut chain = power_on(rights, registers);
+    let mut met = Met::none();
+    for &bit in cdm {
+        chain.iter().for_each(|slave| met.meet(slave.phase()));
+        chain.iter_mut().fold(0, |seen, slave| slave.step(bit, seen));
+    }
+    met
+}
+
 /// Runs the chain from power-on over a master row.
 pub fn run(
     slaves: usize,
@@ -228,16 +268,7 @@ pub fn run(
     if let Some(number) = refusal(slaves, rights, registers, cdm, cds) {
         return Refused(number);
     }
-    let each = rights.chunks(REGISTERS).zip(registers.chunks_mut(REGISTERS));
-    let mut chain: Vec<Slave> = each
-        .map(|(rights, registers)| Slave {
-            rights,
-            registers,
-            zeros: Zeros::none_yet(),
-            number: None,
-            awaits: Awaits::Rest,
-        })
-        .collect();
+    let mut chain = power_on(rights, registers);
     for (&bit, answer) in cdm.iter().zip(cds.iter_mut()) {
         *answer = chain.iter_mut().fold(0, |seen, slave| slave.step(bit, seen));
     }

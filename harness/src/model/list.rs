@@ -1,6 +1,7 @@
 //! Lists: the reading of two rows, and the printing of a list.
 
 use super::entry::{Entry, ENTRY_BYTES, FORMS};
+use super::phase::Met;
 use super::reader::Reader;
 use super::rows::{has_bad_byte, is_too_long};
 use super::Outcome::{self, Made, Refused};
@@ -16,6 +17,17 @@ pub fn list(cdm: &[u8], cds: &[u8], opening: usize) -> Vec<Entry> {
         }
     }
     entries
+}
+
+/// The phases that this reader meets.
+pub fn phases(cdm: &[u8], cds: &[u8], opening: usize) -> Met {
+    let mut reader = Reader::let_in();
+    let mut met = Met::none();
+    for column in opening..cdm.len() {
+        met.meet(reader.phase());
+        reader.step(cdm[column], cds[column]);
+    }
+    met
 }
 
 /// The job read.

@@ -3,6 +3,7 @@
 use super::check::{check_is_right, BYTE_BITS, HEADER_BITS};
 use super::entry::{Entry, Kind};
 use super::frame::{BYTE_AND_CHECK, FIRST_LOCK, LAST_HEADER, MOST_BYTES};
+use super::phase::{of_access, of_header, Phase};
 use super::rows::Zeros;
 
 const LAST_ADDRESS: u8 = 127;
@@ -89,6 +90,21 @@ impl Reader {
                 answered << 1 | u16::from(cds),
             ),
             Awaits::P(access) => self.p(access, cds),
+        }
+    }
+
+    pub fn phase(&self) -> Phase {
+        match self.awaits {
+            Awaits::Rest => Phase::Deaf,
+            Awaits::Start => Phase::Rest,
+            Awaits::Header { column, .. } => of_header(column),
+            Awaits::R { .. } => Phase::R,
+            Awaits::W { .. } => Phase::W,
+            Awaits::ByteStart(a) => of_access(a.writing, Phase::ReadStart, Phase::WriteStart),
+            Awaits::Byte { access: a, .. } => {
+                of_access(a.writing, Phase::ReadBits, Phase::WriteBits)
+            }
+            Awaits::P(a) => of_access(a.writing, Phase::ReadP, Phase::WriteP),
         }
     }
 

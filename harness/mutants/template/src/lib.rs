@@ -10,7 +10,7 @@ fn number(outcome: Outcome) -> u64 {
     match outcome {
         Outcome::Made(made) => made as u64,
         Outcome::Refused(number) => (1 << 63) + u64::from(number),
-        Outcome::BadLine(_) => (1 << 63) + 11,
+        Outcome::BadLine(line) => (1 << 63) + (1 << 62) + line as u64,
     }
 }
 
@@ -42,4 +42,23 @@ pub unsafe extern "C" fn biss_read(
     cdm: *const u8, a: usize, cds: *const u8, b: usize, opening: usize, out: *mut u8, n: usize,
 ) -> u64 {
     number(model::read(lent(cdm, a), lent(cds, b), opening, lent_mut(out, n)))
+}
+
+#[no_mangle]
+pub unsafe extern "C" fn biss_rows_to_text(
+    cdm: *const u8, a: usize, cds: *const u8, b: usize, out: *mut u8, n: usize,
+) -> u64 {
+    number(model::rows_to_text(lent(cdm, a), lent(cds, b), lent_mut(out, n)))
+}
+
+#[no_mangle]
+pub unsafe extern "C" fn biss_text_to_rows(
+    text: *const u8, n: usize, cdm: *mut u8, a: usize, cds: *mut u8, b: usize,
+) -> u64 {
+    number(model::text_to_rows(lent(text, n), lent_mut(cdm, a), lent_mut(cds, b)))
+}
+
+#[no_mangle]
+pub unsafe extern "C" fn biss_list_to_text(list: *const u8, n: usize, out: *mut u8, m: usize) -> u64 {
+    number(model::list_to_text(lent(list, n), lent_mut(out, m)))
 }

@@ -1,0 +1,161 @@
+//! Texts of rows and lists of entries, whole and spoiled.
+
+use super::chains::recording;
+use super::random::Random;
+use crate::conditions::bad_line;
+use crate::model::entry::ENTRY_BYTES;
+use crate::model::list::list;
+use crate::model::rows::MOST_COLUMNS;
+use crate::model::{rows_to_text, text::ROWS_HEADER};
+
+/// What a damaged text is marked with.
+pub const DAMAGES: [&str; 14] = [
+    "byte changed",
+    "byte removed",
+    "byte inserted",
+    "cut",
+    "no last LF",
+    "one CR LF",
+    "CR LF always",
+    "line added",
+    "header wrong",
+    "empty",
+    "damage that does no harm",
+    "bad header",
+    "bad line",
+    "bad line past the limit",
+];
+
+/// What a spoiled list is marked with.
+pub const LIST_FAULTS: [&str; 4] = ["ragged", "kind 0", "kind 17", "kind over 17"];
+
+const BYTES: &[u8] = b"01\t\n 2a\r\0";
+
+const HEADERS: [&[u8]; 9] = [
+    b"",
+    b"cds\tcdm\n",
+    b"cdm cds\n",
+    b"CDM\tCDS\n",
+    b"cdm\tcds\t\n",
+    b"cdm\tcds\r\n",
+    b"cdm,cds\n",
+    b"\xEF\xBB\xBFcdm\tcds\n",
+    b"cdm\tcds\ncdm\tcds\n",
+];
+
+const LINES: [&[u8]; 8] =
+    [b"\n", b"\n\n", b"0\t0\t0\n", b"0 1\n", b"2\t0\n", b"0\t/\n", b"0\t1\r\n", b"01\t0\n"];
+
+/// The text of a recording's rows, and how many columns it has.
+pub fn text(random: &mut Random) -> (Vec<u8>, usize) {
+    if random.one_in(40) {
+        return (ROWS_HEADER.to_vec(), 0);
+    }
+    let rows = recording(random);
+    let mut text = vec![0; ROWS_HEADER.len() + 4 * rows.cdm.len()];
+    rows_to_text(&rows.cdm, &rows.cds, &mut text);
+    (text, rows.cdm.len())
+}
+
+/// Goes on up to more than 4,096 columns; gives how many there are.
+pub fn lengthen(random: &mut Random, text: &mut Vec<u8>) -> usize {
+    let columns = MOST_COLUMNS + random.pick(&[1, 1, 1, 2, 3, 1000]);
+    while text.len() < ROWS_HEADER.len() + 4 * columns {
+        text.extend_from_slice(&[b'0' + random.bit(), b'\t', b'0' + random.bit(), b'\n']);
+    }
+    columns
+}
+
+/// Any place of a text, often one at an end of it or of its header.
+fn place(random: &mut Random, text: &[u8]) -> usize {
+    let any = random.below(text.len());
+    random.pick(&[0, 7, 8, text.len() - 1, any, any, any, any]).min(text.len() - 1)
+}
+
+/// Damages a text with its header, and says how and what is then bad.
+pub fn damage(random: &mut Random, text: &mut Vec<u8>) -> Vec<&'static str> {
+    let how = random.below(10);
+    let place = place(random, text);
+    match how {
+        0 => text[place] = byte(random),
+        1 => drop(text.remove(place)),
+        2 => text.insert(place, byte(random)),
+        3 => text.truncate(place),
+        4 => drop(text.pop()),
+        5 => feed_with_return(random, text),
+        6 => *text = text.split_inclusive(|&byte| byte == b'\n').flat_map(with_return).collect(),
+        7 => drop(text.splice(line_start(place)..line_start(place), random.pick(&LINES).to_vec())),
+        8 => drop(text.splice(..ROWS_HEADER.len(), random.pick(&HEADERS).to_vec())),
+        _ => text.clear(),
+    }
+    match bad_line(text) {
+        None => vec!["damage that does no harm"],
+        Some(1) => vec![DAMAGES[how], "bad header"],
+        Some(line) if line <= 1 + MOST_COLUMNS => vec![DAMAGES[how], "bad line"],
+        Some(_) => vec![DAMAGES[how], "bad line past the limit"],
+    }
+}
+
+fn byte(random: &mut Random) -> u8 {
+    if random.one_in(4) {
+        return random.next() as u8;
+    }
+    random.pick(BYTES)
+}
+
+fn line_start(place: usize) -> usize {
+    place - place % 4
+}
+
+fn feed_with_return(random: &mut Random, text: &mut Vec<u8>) {
+    let feeds: Vec<usize> = (0..text.len()).filter(|&place| text[place] == b'\n').collect();
+    text.insert(random.pick(&feeds), b'\r');
+}
+
+fn with_return(line: &[u8]) -> Vec<u8> {
+    [&line[..line.len() - 1], b"\r\n"].concat()
+}
+
+/// The bytes of a list: one that was read, or kinds with any fields, at times
+/// many.
+pub fn list_bytes(random: &mut Random) -> Vec<u8> {
+    if random.one_in(4) {
+        let rows = recording(random);
+        return list(&rows.cdm, &rows.cds, 0).iter().flat_map(|entry| entry.bytes()).collect();
+    }
+    let entries = if random.one_in(8) { random.between(100, 700) } else { random.below(30) };
+    (0..entries).flat_map(|_| entry(random)).collect()
+}
+
+/// An entry of any kind with any fields, often numbers where a digit is gained.
+fn entry(random: &mut Random) -> Vec<u8> {
+    let mut entry = random.bytes(ENTRY_BYTES);
+    if random.one_in(3) {
+        let column = random.pick(&[0u16, 9, 10, 99, 100, 999, 1000, 4095, 9999, 10000, u16::MAX]);
+        entry[1..3].copy_from_slice(&column.to_be_bytes());
+        entry[3..].fill_with(|| random.pick(&[0, 1, 9, 10, 99, 100, 199, 255]));
+    }
+    entry[0] = random.between(1, 16) as u8;
+    entry
+}
+
+/// Gives a list a length or a kind that it must not have, or both.
+pub fn spoil_list(random: &mut Random, list: &mut Vec<u8>) -> Vec<&'static str> {
+    let mut marks = Vec::new();
+    let entries = list.len() / ENTRY_BYTES;
+    if entries > 0 && !random.one_in(3) {
+        let any = random.below(entries);
+        let place = random.pick(&[0, entries - 1, any]);
+        let fault = random.between(1, 3);
+        let over = random.between(18, 255) as u8;
+        list[ENTRY_BYTES * place] = [0, 17, over][fault - 1];
+        marks.push(LIST_FAULTS[fault]);
+    }
+    if marks.is_empty() || random.one_in(4) {
+        let length = list.len() + random.between(1, 5);
+        let kind = random.between(0, 20) as u8;
+        list.resize(length, kind);
+        marks.push("ragged");
+    }
+    marks
+}

@@ -1,0 +1,74 @@
+//! The phases of a slave and of the reader, named for the counts.
+
+use super::frame::FIRST_LOCK;
+
+#[derive(Clone, Copy, PartialEq, Eq, Debug)]
+pub enum Phase {
+    PowerOn,
+    Rest,
+    Locks,
+    Header,
+    R,
+    W,
+    ReadStart,
+    ReadBits,
+    ReadP,
+    WriteStart,
+    WriteBits,
+    WriteP,
+    Deaf,
+}
+
+pub const PHASES: [Phase; 13] = [
+    Phase::PowerOn,
+    Phase::Rest,
+    Phase::Locks,
+    Phase::Header,
+    Phase::R,
+    Phase::W,
+    Phase::ReadStart,
+    Phase::ReadBits,
+    Phase::ReadP,
+    Phase::WriteStart,
+    Phase::WriteBits,
+    Phase::WriteP,
+    Phase::Deaf,
+];
+
+/// The phase of a header's column, counted from 1 after S.
+pub fn of_header(column: u8) -> Phase {
+    if (FIRST_LOCK..=FIRST_LOCK + 8).contains(&column) {
+        Phase::Locks
+    } else {
+        Phase::Header
+    }
+}
+
+/// A phase of a read, or the same one of a write.
+pub fn of_access(writing: bool, read: Phase, write: Phase) -> Phase {
+    if writing {
+        write
+    } else {
+        read
+    }
+}
+
+/// The phases met by one machine, or by several.
+#[derive(Clone, Copy)]
+pub struct Met([bool; PHASES.len()]);
+
+impl Met {
+    pub fn none() -> Met {
+        Met([false; PHASES.len()])
+    }
+
+    /// A deaf machine that was never at rest is one after power-on.
+    pub fn meet(&mut self, phase: Phase) {
+        let deaf_from_power_on = phase == Phase::Deaf && !self.has(Phase::Rest);
+        self.0[if deaf_from_power_on { Phase::PowerOn } else { phase } as usize] = true;
+    }
+
+    pub fn has(&self, phase: Phase) -> bool {
+        self.0[phase as usize]
+    }
+}
