@@ -1,4 +1,5 @@
--- The answer row and the registers that a run leaves, and that its rows are rows to read. Assumes nothing.
+-- What an accepted run leaves: its answer row, that its two rows are rows to read, and what line demands of their list.
+-- Assumes nothing.
 use mathlib.Core.Path.{_≡_, refl, sym, ap, _∙_}
 use mathlib.Core.Bool.{true}
 use mathlib.Core.List.{List, map}
@@ -8,10 +9,10 @@ use lib.ListN.{length, length-map}
 use Rattle.line.specs.Bits.{num, bitOf, rowOf}
 use Rattle.line.specs.Memory.{Memory}
 use Rattle.line.specs.Chain.{switchedOn, answersFrom, memoriesAfter}
-use Rattle.line.specs.Entries.{Entry}
 use Rattle.line.specs.Reader.{columns, listFrom}
 use Rattle.line.specs.Account.{account}
-use Rattle.line.specs.Replay.{replay}
+use Rattle.line.specs.Replay.{replay, Shows}
+use Rattle.line.proofs.Memories.{Bytes}
 use Rattle.line.proofs.Rows.{answers-length}
 use Rattle.line.proofs.Demands as line
 use Rattle.job.specs.Outcome.{areBits}
@@ -50,7 +51,7 @@ module _ {slaves c : ℕ} {rights registers cdm cds registers′ cds′ : List �
       ran .leaves-row
       ∙ sym (made-whole _ _ cds none (answers-long ∙ sym (same-rows slaves registers rights cdm cds none)))
 
-  pub row-answers : rowOf cds′ ≡ answersFrom chain (rowOf cdm)
+  row-answers : rowOf cds′ ≡ answersFrom chain (rowOf cdm)
   row-answers = ap rowOf row-bytes ∙ row-num (answersFrom chain (rowOf cdm))
 
   row-long : length cds′ ≡ length cdm
@@ -62,10 +63,11 @@ module _ {slaves c : ℕ} {rights registers cdm cds registers′ cds′ : List �
       let short = short-row slaves registers rights cdm cds none in
       let bits : areBits cds′ ≡ true = rw row-bytes (num-bits (answersFrom chain (rowOf cdm))) in
       sym
-      (rows-good cdm cds′ k short (omega (arith, row-long)) (sym row-long) true (sym (master-bits slaves registers rights cdm cds none))
-      true (sym bits) refl refl h)
+      (rows-good cdm cds′ k short (omega (arith, row-long)) (sym row-long)
+      true (sym (master-bits slaves registers rights cdm cds none)) true (sym bits) refl refl h)
 
-  pub rows-read : (k : ℕ) (lent : List ℕ) → k ≤ length cdm → 6 * length cdm ≤ length lent → Read.refusal cdm cds′ k (length lent) ≡ 0
+  pub rows-read : (k : ℕ) (lent : List ℕ) → k ≤ length cdm → 6 * length cdm ≤ length lent
+      → Read.refusal cdm cds′ k (length lent) ≡ 0
   rows-read k lent h room =
       not-refused cdm cds′ k lent (rows-right k h) (omega (arith, length-bytes (listOf k cdm cds′), length-list k cdm cds′))
 
@@ -74,16 +76,26 @@ module _ {slaves c : ℕ} {rights registers cdm cds registers′ cds′ : List �
   unfolding listOf
   row-list = rw row-answers
 
+  -- Line's demands, of that list: it is the account, ..
   module _ (bytes : areBytes registers ≡ true) where
-    pub row-account : listOf 0 cdm cds′ ≡ account chain (rowOf cdm)
-    row-account = row-list ∙ line.list-is-account chain (rowOf cdm) (memories-bytes slaves registers rights bytes)
+    chain-bytes : Bytes chain
+    chain-bytes = memories-bytes slaves registers rights bytes
 
-    -- The lent registers hold those of the memories afterwards, and nothing else.
-    pub registers-left : registersOf (memoriesAfter chain (rowOf cdm)) ≡ registers′
-    registers-left =
-        let es : List Entry = listFrom 0 (columns (rowOf cdm) (answersFrom chain (rowOf cdm))) in
-        let replayed : replay chain es ≡ memoriesAfter chain (rowOf cdm) = line.replay-is-final chain (rowOf cdm) (memories-bytes slaves registers rights bytes) in
-        let lent : registersOf chain ≡ registers = registers-back slaves registers rights (held slaves registers rights cdm cds none .all-registers) in
-        let long : length (registersOf (memoriesAfter chain (rowOf cdm))) ≡ length registers =
-        ap (λ (ks : List Memory). length (registersOf ks)) (sym replayed) ∙ replay-length chain es ∙ ap length lent in
-        made-whole _ _ registers none long ∙ sym (ran .leaves-registers)
+    pub row-account : listOf 0 cdm cds′ ≡ account chain (rowOf cdm)
+    row-account = row-list ∙ line.list-is-account chain (rowOf cdm) chain-bytes
+
+    -- .. its reads show what stood there, ..
+    pub row-shows : Shows chain (listOf 0 cdm cds′)
+    row-shows = rw row-list (line.reads-show chain (rowOf cdm) chain-bytes)
+
+    -- .. and its replay gives the lent registers, all of them, as run left them.
+    row-final : replay chain (listOf 0 cdm cds′) ≡ memoriesAfter chain (rowOf cdm)
+    row-final = rw row-list (line.replay-is-final chain (rowOf cdm) chain-bytes)
+
+    pub row-replay : registersOf (replay chain (listOf 0 cdm cds′)) ≡ registers′
+    row-replay =
+        let as-lent : registersOf chain ≡ registers
+        = registers-back slaves registers rights (held slaves registers rights cdm cds none .all-registers) in
+        let long : length (registersOf (memoriesAfter chain (rowOf cdm))) ≡ length registers
+        = rw (← row-final) (replay-length chain (listOf 0 cdm cds′) ∙ ap length as-lent) in
+        ap registersOf row-final ∙ made-whole _ _ registers none long ∙ sym (ran .leaves-registers)

@@ -1,6 +1,6 @@
 -- A chain's lent registers and its memories: bytes, there and back, as many after a replay, and alike where they may be read.
 -- Assumes nothing.
-use mathlib.Core.Path.{_≡_, refl, ap, _∙_}
+use mathlib.Core.Path.{_≡_, refl, _∙_}
 use mathlib.Core.Bool.{true}
 use mathlib.Core.List.{List, [], _∷_}
 use Prim.Native.Nat.{ℕ, zero, suc, _+_, _*_, _^_, _≤_, _<_}
@@ -61,7 +61,7 @@ stored-length : (ks : List Memory) (id address value : ℕ)
 unfolding storedAt stored registersOf
 stored-length [] id address value = refl
 stored-length (k ∷ ks) zero address value = simp (length-append, length-set)
-stored-length (k ∷ ks) (suc id) address value = simp length-append (ap (λ (n : ℕ). length (k .registers) + n) (stored-length ks id address value))
+stored-length (k ∷ ks) (suc id) address value = simp (length-append, stored-length ks id address value)
 
 put-length : (ks : List Memory) (e : Entry) → length (registersOf (put ks e)) ≡ length (registersOf ks)
 unfolding put
@@ -93,7 +93,7 @@ module _ {rights registers registers′ : List ℕ} (differ : DifferUnread right
   differ-behind =
       record {
         as-many = simp (length-drop, differ .as-many);
-        readable = λ place h. rw (getD-drop registerCount registers, getD-drop registerCount registers′) (differ .readable (registerCount + place) (rw getD-drop at h));
+        readable = λ place h. simp getD-drop (differ .readable (registerCount + place) (rw getD-drop at h));
       }
 
 pub all-alike : (n : ℕ) {rights registers registers′ : List ℕ} → DifferUnread rights registers registers′

@@ -1,7 +1,7 @@
 -- What the scope demands, of the jobs' own results: byte rows, chains of up to 16 slaves, registers and rights as they are lent. `Made`
 -- says that a job accepted; a name with a prime, or `after`, is what it left in the buffer that was lent to it. That fourteen zeros bring
 -- every slave and the reader to rest speaks of states and not of results: line's slaves-rest and reader-rests. Assumes nothing.
-use mathlib.Core.Path.{_≡_, refl, sym, ap, ap₂, _∙_}
+use mathlib.Core.Path.{_≡_, refl, sym, ap, _∙_}
 use mathlib.Core.Bool.{true, false}
 use mathlib.Core.List.{List, map}
 use Prim.Native.Nat.{ℕ, _+_, _*_, _≤_, _<_}
@@ -10,7 +10,7 @@ use borrow.Author.Tests.{le-ltb}
 use lib.ListN.{length, take}
 use Rattle.line.specs.Limits.{restZeros}
 use Rattle.line.specs.Bits.{num, rowOf}
-use Rattle.line.specs.Entries.{Entry, listBytes}
+use Rattle.line.specs.Entries.{listBytes}
 use Rattle.line.specs.Account.{account}
 use Rattle.line.specs.Replay.{replay, Shows}
 use Rattle.line.specs.Runs.{FirstRun, NoRun, fromColumn}
@@ -30,9 +30,9 @@ use Rattle.carry.specs.Carry.{RowsPrinted, RowsTaken}
 use Rattle.carry.specs.declared.Taken.{Taken}
 use Rattle.carry.specs.declared.Taken.the-variants.{Columns}
 use Rattle.demands.specs.Lent.{areBytes, listIn, entriesIn, kindAt, isFault, DifferUnread}
-use Rattle.demands.proofs.Chains.{memories-bytes, all-alike}
+use Rattle.demands.proofs.Chains.{all-alike}
 use Rattle.demands.proofs.Lists.{list-count, list-bytes, list-entries, list-empty, list-late, list-never, no-fault-at}
-use Rattle.demands.proofs.Answers.{row-bytes, row-list, row-account, rows-read, registers-left}
+use Rattle.demands.proofs.Answers.{row-bytes, rows-read, row-account, row-shows, row-replay}
 use Rattle.demands.proofs.Texts.{rows-taken, printed-back, printed-taken}
 
 -- A run that was accepted, on registers lent as bytes, and the list that read made of the master row and the answer row alone.
@@ -45,13 +45,11 @@ module _ {slaves c n : ℕ} {rights registers cdm cds registers′ cds′ lent a
 
   -- "Its writes replayed on the starting registers give the final registers": those that run left.
   pub replay-is-final : registersOf (replay (memoriesOf slaves registers rights) (entriesIn (listIn n after))) ≡ registers′
-  replay-is-final =
-      rw (list-entries listed, row-list ran, line.replay-is-final _ (rowOf cdm) (memories-bytes slaves registers rights bytes))
-      (registers-left ran bytes)
+  replay-is-final = rw (list-entries listed) (row-replay ran bytes)
 
   -- "Each read shows the byte that stood there then": in the replay of the entries before it.
   pub reads-show : Shows (memoriesOf slaves registers rights) (entriesIn (listIn n after))
-  reads-show = rw (list-entries listed, row-list ran) (line.reads-show _ (rowOf cdm) (memories-bytes slaves registers rights bytes))
+  reads-show = rw (list-entries listed) (row-shows ran bytes)
 
   -- No entry of the list is of a kind 2, 8, 9, 12 or 14: only damaged rows show a fault.
   pub no-faults : (place : ℕ) → place < n → isFault (kindAt (listIn n after) place) ≡ false
@@ -97,7 +95,8 @@ two-runs {slaves} {cdm} ran ran′ differ =
 
 -- "Rows go to text and back unchanged": what rows to text wrote, text to rows takes back, into rows with room for it.
 pub rows-come-back : (cdm cds : List ℕ) {lent text a b a′ b′ : List ℕ} {n : ℕ} {answer : Taken}
-    → RowsPrinted cdm cds lent (Made n) text → RowsTaken (take n text) a b answer a′ b′ → length cdm ≤ length a → length cdm ≤ length b
+    → RowsPrinted cdm cds lent (Made n) text → RowsTaken (take n text) a b answer a′ b′
+    → length cdm ≤ length a → length cdm ≤ length b
     → (answer ≡ Columns (length cdm)) × (take (length cdm) a′ ≡ cdm) × (take (length cdm) b′ ≡ cds)
 rows-come-back cdm cds printed rows room room′ =
     let accepted = printed-taken cdm cds printed rows room room′ in
@@ -105,26 +104,26 @@ rows-come-back cdm cds printed rows room room′ =
     let back = printed-back cdm cds printed in
     (accepted, there .cdm-there ∙ back .cdm-back, there .cds-there ∙ back .cds-back)
 
+-- .. and a text that it takes is that of its rows, byte for byte.
+pub text-is-rows : {text a b a′ b′ : List ℕ} {c : ℕ} → RowsTaken text a b (Columns c) a′ b′ → text ≡ rowsText (take c a′) (take c b′)
+text-is-rows {text} rows =
+    let there = rows-taken rows in rw (there .cdm-there, there .cds-there) (back-and-there text (there .good))
+
 -- Text to rows, read and list to text, one after the other on any text, as a program does that indexes a recording.
 module _ {text a b a′ b′ lent list room out : List ℕ} {c k n p : ℕ} (rows : RowsTaken text a b (Columns c) a′ b′)
     (listed : Listed (take c a′) (take c b′) k lent (Made n) list) (printed : ListPrinted (listIn n list) room (Made p) out) where
-  -- The text is that of the rows that were read, byte for byte ..
-  pub text-is-read : text ≡ rowsText (take c a′) (take c b′)
-  text-is-read = rw (rows-taken rows .cdm-there, rows-taken rows .cds-there) (back-and-there text (rows-taken rows .good))
-
-  -- .. what is printed is the list of the rows in the text ..
+  -- What is printed is the list of the rows in the text ..
   pub list-is-printed : take p out ≡ listText (listBytes (listOf k (cdmOf text) (cdsOf text)))
   list-is-printed =
-      let rows-read = ap₂ (λ (ms xs : List ℕ). listBytes (listOf k ms xs)) (rows-taken rows .cdm-there) (rows-taken rows .cds-there) in
-      was-printed printed .2 ∙ ap listText (list-bytes listed ∙ rows-read)
+      let there = rows-taken rows in
+      was-printed printed .2 ∙ ap listText (list-bytes listed ∙ rw (there .cdm-there, there .cds-there))
 
   -- .. and of a text that rows to text wrote it is the list of the rows that were written.
   pub written-is-printed : (cdm cds : List ℕ) {lent′ written : List ℕ} {m : ℕ} → RowsPrinted cdm cds lent′ (Made m) written
       → text ≡ take m written → take p out ≡ listText (listBytes (listOf k cdm cds))
   written-is-printed cdm cds wrote same =
       let back = printed-back cdm cds wrote in
-      list-is-printed
-      ∙ rw (same, back .cdm-back, back .cds-back)
+      list-is-printed ∙ rw (same, back .cdm-back, back .cds-back)
 
 -- All of it: a chain is run, its rows are written as text, the text is indexed, and what is printed is the chain's own account.
 pub account-is-printed : {slaves c d n m p : ℕ}
@@ -134,4 +133,4 @@ pub account-is-printed : {slaves c d n m p : ℕ}
     → ListPrinted (listIn n list) room (Made p) out
     → take p out ≡ listText (listBytes (account (memoriesOf slaves registers rights) (rowOf cdm)))
 account-is-printed {cdm} {cds′} bytes ran wrote rows listed printed =
-    written-is-printed rows listed printed cdm cds′ wrote refl ∙ ap (λ (es : List Entry). listText (listBytes es)) (row-account ran bytes)
+    written-is-printed rows listed printed cdm cds′ wrote refl ∙ rw (row-account ran bytes)

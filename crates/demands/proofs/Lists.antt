@@ -38,7 +38,7 @@ no-fault-at (e ∷ es) (suc i) sound h =
     let six : 6 * suc i ≡ suc (suc (suc (suc (suc (suc (6 * i)))))) = omega arith in
     rw six (no-fault-at es i (sound .1) (omega arith))
 
--- What read says that made a list.
+-- What it says that read made a list.
 module _ {cdm cds lent after : List ℕ} {k n : ℕ} (listed : Listed cdm cds k lent (Made n) after) where
   none : refusal cdm cds k (length lent) ≡ 0
   none = was-made _ _ (listed .answers) .0
@@ -49,8 +49,8 @@ module _ {cdm cds lent after : List ℕ} {k n : ℕ} (listed : Listed cdm cds k 
   pub list-bytes : listIn n after ≡ listBytes (listOf k cdm cds)
   unfolding listIn
   list-bytes =
-      let long : 6 * n ≡ length (listBytes (listOf k cdm cds)) = rw (length-bytes, list-count) in
-      rw (long, listed .leaves-list) (result-first (refusal cdm cds k (length lent)) (listBytes (listOf k cdm cds)) lent none)
+      rw (list-count, ← length-bytes (listOf k cdm cds), listed .leaves-list)
+      (result-first (refusal cdm cds k (length lent)) (listBytes (listOf k cdm cds)) lent none)
 
   pub list-entries : entriesIn (listIn n after) ≡ listOf k cdm cds
   list-entries = ap entriesIn list-bytes ∙ entries-back (listOf k cdm cds)
