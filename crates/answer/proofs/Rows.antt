@@ -11,11 +11,11 @@ use Rattle.line.specs.Limits.{columnLimit}
 use Rattle.line.specs.Entries.{listBytes}
 use Rattle.line.specs.Text.{badLine, rowIn, cdmOf, cdsOf, isList, listText}
 use Rattle.line.proofs.Every.{tested}
-use Rattle.line.proofs.Codec.{is-list}
+use Rattle.line.proofs.Codec.{bytes-list}
 use Rattle.job.specs.Outcome.{outcome, leaves, noneAbove, areBits}
 use Rattle.job.specs.declared.Outcome.{Outcome}
 use Rattle.job.specs.declared.Outcome.the-variants.{Made, Refused}
-use Rattle.job.proofs.Ends.{front}
+use Rattle.job.proofs.Ends.{result-first}
 use Rattle.read.specs.Read.{listOf, refusal, Listed}
 use Rattle.read.proofs.Filled.{length-bytes}
 use Rattle.read.proofs.Left.{length-list}
@@ -68,8 +68,8 @@ says text cdm cds {answer} {m} {s} cdm-room cds-room t =
       short = short;
       in-cdm = rw in-m (fits (cdmOf text) cdm refl);
       in-cds = rw in-s (fits (cdsOf text) cds same);
-      cdm-row = rw in-m (front _ (cdmOf text) cdm refl);
-      cds-row = rw in-s (front _ (cdsOf text) cds same);
+      cdm-row = rw in-m (result-first 0 (cdmOf text) cdm refl);
+      cds-row = rw (in-s, same) (result-first 0 (cdsOf text) cds refl);
     })))
 
 -- What read answers for right rows where the lent list holds any list: the list, or 8.
@@ -107,7 +107,7 @@ module _ (cdm cds : List ℕ) (k : ℕ) (none-wrong : wrongRows cdm cds ≡ 0) w
       let six : length list ≡ 6 * length (listOf k cdm cds) = length-bytes (listOf k cdm cds) in
       let laid : after ≡ leaves 0 list lent = l .leaves-list ∙ rw (by-opening _ room, within) in
       rw (l .answers, by-opening _ room, within)
-      (ltb-false _ _ within, rw laid (fits list lent (sym six)), rw laid (front _ list lent (sym six))))
+      (ltb-false _ _ within, rw laid (fits list lent (sym six)), rw (laid, ← six) (result-first 0 list lent refl)))
 
 -- The rows of a text are never wrong in their bytes, and of one length.
 row-bits : (place : ℕ) (text : List ℕ) → areBits (rowIn place text) ≡ true
@@ -137,7 +137,7 @@ module _ (cdm cds : List ℕ) (k : ℕ) where
       → ListPrinted list lent answer after → Whole (rowsAnswer cdm cds k) lent answer after
   unfolding rowsAnswer listRefusal
   answers-list h {list} e {lent} {after} {answer} printed =
-      rw (le-ltb (length cdm) k h, ← e) (rw (ap isList e ∙ is-list (listOf k cdm cds)) at printed)
+      rw (le-ltb (length cdm) k h, ← e) (rw (ap isList e ∙ bytes-list (listOf k cdm cds)) at printed)
 
 module _ (text : List ℕ) (k : ℕ) where
   pub answers-bad : 0 < badLine text → answerText text k ≡ refusedText (11 ∷ badLine text ∷ [])

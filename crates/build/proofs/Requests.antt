@@ -1,19 +1,12 @@
 -- What a request that refusal 10 lets through keeps to. Assumes nothing.
-use mathlib.Core.Path.{_≡_, refl}
-use mathlib.Core.Bool.{Bool, true, false, _||_, true≢false}
+use mathlib.Core.Path.{_≡_}
+use mathlib.Core.Bool.{Bool, false, _||_}
 use Prim.Native.Nat.{ℕ, _+_, _-_, _≤_, _<_}
 use borrow.Author.Tests.{ltb-false, eqb-false}
 use lib.Dec.{ltb, eqb}
 use Rattle.line.specs.Limits.{idCount, registerCount, byteLimit}
+use Rattle.job.proofs.Ends.{no-either}
 use Rattle.build.specs.Build.{outsideAccess}
-
-or-left : (a b : Bool) → (a || b) ≡ false → a ≡ false
-or-left true b e = e
-or-left false b e = refl
-
-or-right : (a b : Bool) → (a || b) ≡ false → b ≡ false
-or-right true b e = absurd (true≢false e)
-or-right false b e = e
 
 pub record Inside (id address count : ℕ) : Type 0 where
   pub id-low : id ≤ idCount - 1
@@ -29,13 +22,13 @@ inside id address count e =
     let past : Bool = high || ltb (registerCount - 1) address in
     let empty : Bool = past || eqb count 0 in
     let many : Bool = empty || ltb byteLimit count in
-    let e₁ : many ≡ false = or-left many _ e in
-    let e₂ : empty ≡ false = or-left empty _ e₁ in
-    let e₃ : past ≡ false = or-left past _ e₂ in
+    let e₁ : many ≡ false = no-either many _ e .0 in
+    let e₂ : empty ≡ false = no-either empty _ e₁ .0 in
+    let e₃ : past ≡ false = no-either past _ e₂ .0 in
     record {
-      id-low = ltb-false _ _ (or-left high _ e₃);
-      address-low = ltb-false _ _ (or-right high _ e₃);
-      some-bytes = eqb-false _ _ (or-right past _ e₂);
-      few-bytes = ltb-false _ _ (or-right empty _ e₁);
-      end-low = ltb-false _ _ (or-right many _ e);
+      id-low = ltb-false _ _ (no-either high _ e₃ .0);
+      address-low = ltb-false _ _ (no-either high _ e₃ .1);
+      some-bytes = eqb-false _ _ (no-either past _ e₂ .1);
+      few-bytes = ltb-false _ _ (no-either empty _ e₁ .1);
+      end-low = ltb-false _ _ (no-either many _ e .1);
     }

@@ -1,24 +1,13 @@
 -- Rows and their text, column by column: what is left of each at a column, and how long it is. Assumes nothing.
 use mathlib.Core.Path.{_≡_, refl}
-use mathlib.Core.Bool.{true}
 use mathlib.Core.List.{List, [], _∷_, _++_}
-use Prim.Native.Nat.{ℕ, zero, suc, _+_, _-_, _*_, _/_, _%_, _≤_, _<_}
+use Prim.Native.Nat.{ℕ, suc, _+_, _-_, _*_, _/_, _%_, _≤_, _<_}
 use native.Mathlib.Numerals.{add-one}
 use native.Mathlib.Omega.{arith}
-use borrow.Author.Tests.{leb-true}
-use lib.Dec.{leb}
 use lib.ListN.{length, length-drop, drop, drop-of-length-le, getD, set}
 use lib.Seq.{sets, drop-cons}
 use Rattle.line.specs.Text.{columnLine, columnLines, rowsText, rowIn}
-use Rattle.line.proofs.Text.{both, four}
-use Rattle.job.specs.Outcome.{noneAbove, areBits}
-
--- Every byte of a row of bits is 0 or 1.
-pub bit-at : (row : List ℕ) (k : ℕ) → areBits row ≡ true → k < length row → getD row k 0 ≤ 1
-unfolding areBits noneAbove
-bit-at [] k e h = absurd (omega arith)
-bit-at (b ∷ row) zero e h = leb-true b 1 (both (leb b 1) (areBits row) e .0)
-bit-at (b ∷ row) (suc k) e h = bit-at row k (both (leb b 1) (areBits row) e .1) (omega arith)
+use Rattle.line.proofs.Text.{four}
 
 -- The column lines of two rows, from column k on: one more, or none.
 module _ (cdm cds : List ℕ) (k : ℕ) where

@@ -1,31 +1,23 @@
 -- How carry's calls end: what lets rows and texts through, and the ends of text to rows. Assumes nothing.
 use mathlib.Core.Path.{_≡_, refl, sym, ap, _∙_}
-use mathlib.Core.Bool.{Bool, true, false, cond, not, _&&_, _||_, false≢true}
+use mathlib.Core.Bool.{Bool, true, false, cond, not, _&&_, _||_}
 use mathlib.Core.List.{List}
 use Prim.Native.Nat.{ℕ, zero, suc, _+_, _-_, _*_, _/_, _≤_, _<_}
 use native.Mathlib.Omega.{arith}
-use borrow.Author.Tests.{lt-ltb, le-ltb, ltb-false, eqb-true, eq-eqb, ne-eqb}
+use borrow.Author.Tests.{lt-ltb, le-ltb, ltb-false, eqb-true, eq-eqb, ne-eqb, not-false}
 use lib.Dec.{ltb, eqb}
 use lib.ListN.{length, length-drop, drop}
 use lib.Seq.{sets}
 use Rattle.line.specs.Limits.{columnLimit}
 use Rattle.line.specs.Text.{orElse, badLine, cdmOf, cdsOf}
+use Rattle.line.proofs.Every.{tested}
 use Rattle.line.proofs.Text.{both}
 use Rattle.job.specs.Outcome.{areBits}
-use Rattle.job.proofs.Ends.{not-first, then-rest, refused-leaves, made-leaves}
+use Rattle.job.proofs.Ends.{not-first, then-rest, no-either, refused-leaves, made-leaves}
 use Rattle.carry.specs.Carry.{wrongRows, rowsRefusal, textRoom, textRefusal, taken, RowsTaken}
 use Rattle.carry.specs.declared.Taken.{Taken}
 use Rattle.carry.specs.declared.Taken.the-variants as Answer
 use Rattle.carry.proofs.Columns.{text-length, row-length}
-
--- Of two conditions, neither holds; one that is denied holds.
-no-either : (a b : Bool) → a || b ≡ false → (a ≡ false) × (b ≡ false)
-no-either true b h = absurd (false≢true (sym h))
-no-either false b h = (refl, h)
-
-denied : (a : Bool) → not a ≡ false → a ≡ true
-denied true h = refl
-denied false h = absurd (false≢true (sym h))
 
 -- The first number that is given counts.
 first-counts : (n rest : ℕ) → (n ≡ 0 → ⊥) → n ≡ orElse n rest
@@ -48,10 +40,10 @@ module _ (cdm cds : List ℕ) where
       let bad = not (areBits cdm && areBits cds) in
       let six = then-rest long 4 (cond unlike 6 (cond bad 7 0)) e in
       let seven = then-rest unlike 5 (cond bad 7 0) six in
-      let bits = both (areBits cdm) (areBits cds) (denied _ (not-first bad 6 0 seven)) in
+      let bits = both (areBits cdm) (areBits cds) (not-false _ (not-first bad 6 0 seven)) in
       record {
         short = ltb-false _ _ (no-either _ _ (not-first long 4 (cond unlike 6 (cond bad 7 0)) e) .0);
-        same = eqb-true _ _ (denied _ (not-first unlike 5 (cond bad 7 0) six));
+        same = eqb-true _ _ (not-false _ (not-first unlike 5 (cond bad 7 0) six));
         cdm-bits = bits .0;
         cds-bits = bits .1;
       }
@@ -75,13 +67,17 @@ module _ (cdm cds : List ℕ) where
     unfolding rowsRefusal
     rows-none h = rw (e, text-length cdm cds (right-rows e .same), le-ltb _ _ h)
 
--- So many columns that are refused by neither 5 nor 9; 11 is neither of them.
+-- So many columns that are refused by neither 5 nor 9, and back; 11 is neither of them.
 pub room-enough : (n cdm cds : ℕ) → textRoom n cdm cds ≡ 0 → (n ≤ cdm) × (n ≤ cds)
 unfolding textRoom
 room-enough n cdm cds e =
     let nine = ltb cdm n || ltb cds n in
     let rows = no-either _ _ (not-first nine 8 0 (then-rest (ltb columnLimit n) 4 (cond nine 9 0) e)) in
     (ltb-false _ _ (rows .0), ltb-false _ _ (rows .1))
+
+pub room-given : (n cdm cds : ℕ) → n ≤ columnLimit → n ≤ cdm → n ≤ cds → textRoom n cdm cds ≡ 0
+unfolding textRoom
+room-given n cdm cds short fits fits′ = rw (le-ltb columnLimit n short, le-ltb cdm n fits, le-ltb cds n fits′)
 
 not-eleven : (n cdm cds : ℕ) → textRoom n cdm cds ≡ 11 → ⊥
 unfolding textRoom
@@ -143,3 +139,13 @@ module _ (text cdm cds : List ℕ) where
           leaves-cdm = put .0 ∙ made-leaves refusal (cdmOf text) cdm none (rw (long .0) (rows .0));
           leaves-cds = put .1 ∙ made-leaves refusal (cdsOf text) cds none (rw (long .1) (rows .1));
         }
+
+-- And back: where columns were taken nothing was refused, and the text has as many.
+pub was-taken : (why line columns : ℕ) {n : ℕ} → Answer.Columns n ≡ taken why line columns → (why ≡ 0) × (n ≡ columns)
+unfolding taken
+was-taken why line columns {n} e =
+    tested (eqb why 0) (λ q. let same = rw q at e in (eqb-true why 0 q, cc)) (λ q. absurd (refused (eqb why 11) (rw q at e)))
+  where
+    refused : (eleven : Bool) → Answer.Columns n ≡ cond eleven (Answer.BadLine line) (Answer.Refused why) → ⊥
+    refused true e = let z : _≡_ {A = ℕ} 0 1 = cc in omega arith
+    refused false e = let z : _≡_ {A = ℕ} 0 1 = cc in omega arith

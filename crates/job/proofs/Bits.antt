@@ -1,13 +1,17 @@
--- What is left of some bytes, one byte on. Assumes nothing.
-use mathlib.Core.Path.{_≡_}
-use mathlib.Core.Bool.{true, false}
-use mathlib.Core.List.{List}
-use Prim.Native.Nat.{ℕ, _+_, _≤_, _<_}
+-- What is left of some bytes, one byte on; each byte of bytes that are not above a limit; rows of bits. Assumes nothing.
+use mathlib.Core.Path.{_≡_, refl}
+use mathlib.Core.Bool.{Bool, true, false}
+use mathlib.Core.List.{List, [], _∷_, map}
+use Prim.Native.Nat.{ℕ, zero, suc, _+_, _≤_, _<_}
 use native.Mathlib.Numerals.{add-one}
-use borrow.Author.Tests.{le-leb, lt-leb}
+use native.Mathlib.Omega.{arith}
+use borrow.Author.Tests.{le-leb, lt-leb, leb-true}
+use lib.Dec.{leb}
 use lib.ListN.{length, drop, getD, drop-of-length-le}
 use lib.Seq.{drop-cons}
-use Rattle.job.specs.Outcome.{noneAbove}
+use Rattle.line.specs.Bits.{num}
+use Rattle.line.proofs.Text.{Bits, both}
+use Rattle.job.specs.Outcome.{noneAbove, areBits}
 
 module _ (limit : ℕ) (bytes : List ℕ) (i : ℕ) where
   -- A byte over the limit decides for what is left of them ..
@@ -24,3 +28,23 @@ module _ (limit : ℕ) (bytes : List ℕ) (i : ℕ) where
   pub no-byte : length bytes ≤ i → noneAbove limit (drop i bytes) ≡ true
   unfolding noneAbove
   no-byte h = rw (drop-of-length-le bytes h)
+
+-- Where no byte is above a limit, none at any place is ..
+pub byte-at : (limit : ℕ) (bytes : List ℕ) (i : ℕ) → noneAbove limit bytes ≡ true → getD bytes i 0 ≤ limit
+unfolding noneAbove
+byte-at limit [] i e = omega arith
+byte-at limit (b ∷ bytes) zero e = leb-true b limit (both (leb b limit) (noneAbove limit bytes) e .0)
+byte-at limit (b ∷ bytes) (suc i) e = byte-at limit bytes i (both (leb b limit) (noneAbove limit bytes) e .1)
+
+-- .. so a row of bits is one in the words of line's texts; and the bytes of bits are such a row.
+pub all-bits : (row : List ℕ) → areBits row ≡ true → Bits row
+unfolding areBits noneAbove
+all-bits [] e = tt
+all-bits (b ∷ row) e =
+    let parts = both (leb b 1) (noneAbove 1 row) e in (omega (arith, leb-true b 1 (parts .0)), all-bits row (parts .1))
+
+pub num-bits : (bs : List Bool) → areBits (map num bs) ≡ true
+unfolding areBits noneAbove
+num-bits [] = refl
+num-bits (true ∷ bs) = num-bits bs
+num-bits (false ∷ bs) = num-bits bs

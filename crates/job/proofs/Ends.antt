@@ -1,13 +1,13 @@
--- How a job ends, for the proofs of the jobs: a cascade of refusals that comes to 0, and the two ends. Assumes nothing.
-use mathlib.Core.Path.{_≡_, refl, sym, ap, _∙_}
-use mathlib.Core.Bool.{Bool, true, false, cond}
+-- How a job ends, for the proofs of the jobs: a cascade of refusals that comes to 0, the two ends, and what it says that something
+-- was made. Assumes nothing.
+use mathlib.Core.Path.{_≡_, refl}
+use mathlib.Core.Bool.{Bool, true, false, cond, _||_, true≢false}
 use mathlib.Core.List.{List}
 use Prim.Native.Nat.{ℕ, zero, suc, _≤_}
 use native.Mathlib.Omega.{arith}
-use lib.ListN.{length, take, drop}
-use lib.Seq.{sets, take-at}
+use lib.ListN.{length, take}
+use lib.Seq.{sets, take-append-seam}
 use Rattle.job.specs.Outcome.{outcome, leaves}
-use Rattle.job.specs.declared.Outcome.{Outcome}
 use Rattle.job.specs.declared.Outcome.the-variants.{Made, Refused}
 use Rattle.job.proofs.Laid.{sets-first}
 
@@ -19,6 +19,11 @@ not-first false n rest e = refl
 pub then-rest : (condition : Bool) (n rest : ℕ) → cond condition (suc n) rest ≡ 0 → rest ≡ 0
 then-rest true n rest e = absurd (omega arith)
 then-rest false n rest e = e
+
+-- Where neither of two conditions may hold, neither does.
+pub no-either : (a b : Bool) → a || b ≡ false → (a ≡ false) × (b ≡ false)
+no-either true b e = absurd (true≢false e)
+no-either false b e = (refl, e)
 
 -- Refused: the number itself, and the lent buffer as it was.
 pub refused-answer : (why made : ℕ) → (why ≡ 0 → ⊥) → Refused why ≡ outcome why made
@@ -41,26 +46,12 @@ pub made-leaves : (why : ℕ) (result lent : List ℕ) → why ≡ 0 → length 
 unfolding leaves
 made-leaves why result lent e h = rw e (sets-first lent result h)
 
--- And back: a count is answered by a call that was not refused, and the front of the buffer is the result ..
-abbrev count : Outcome → ℕ
-count (Made n) = n
-count (Refused n) = 0
-
-abbrev number : Outcome → ℕ
-number (Made n) = 0
-number (Refused n) = suc n
-
-pub was-made : (why made n : ℕ) → Made n ≡ outcome why made → (why ≡ 0) × (n ≡ made)
+-- And back: a job that made so many refused nothing and made as many as that, and its result stands at the start of the buffer.
+pub was-made : (why made : ℕ) {n : ℕ} → Made n ≡ outcome why made → (why ≡ 0) × (n ≡ made)
 unfolding outcome
-was-made zero made n e = (refl, ap count e)
-was-made (suc why) made n e = let differ : 0 ≡ suc (suc why) = ap number e in absurd (omega arith)
+was-made zero made {n} e = (refl, cc)
+was-made (suc why) made {n} e = absurd (let z : _≡_ {A = ℕ} 0 1 = cc in omega arith)
 
-pub front : (n : ℕ) (result lent : List ℕ) → n ≡ length result → take n (leaves 0 result lent) ≡ result
+pub result-first : (why : ℕ) (result lent : List ℕ) → why ≡ 0 → take (length result) (leaves why result lent) ≡ result
 unfolding leaves
-front n result lent e = take-at result (drop (length result) lent) n (sym e)
-
--- .. and a number is the refusal's.
-pub was-refused : (why made n : ℕ) → Refused n ≡ outcome why made → (why ≡ n) × (n ≡ 0 → ⊥)
-unfolding outcome
-was-refused zero made n e = let differ : suc n ≡ 0 = ap number e in absurd (omega arith)
-was-refused (suc why) made n e = let same : suc n ≡ suc (suc why) = ap number e in (omega arith, λ z. omega arith)
+result-first why result lent e = rw (e, take-append-seam)

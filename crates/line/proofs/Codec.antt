@@ -1,12 +1,11 @@
 -- An entry's bytes are the entry: read back, they give it again; and a list's bytes are a list. Assumes nothing.
-use mathlib.Core.Path.{_≡_, refl, ap, _∙_}
+use mathlib.Core.Path.{_≡_, refl}
 use mathlib.Core.Bool.{true}
 use mathlib.Core.List.{List, [], _∷_}
-use mathlib.Core.Option.{Option, some}
-use Prim.Native.Nat.{ℕ, _+_, _*_, _/_, _%_}
+use mathlib.Core.Option.{some}
 use native.Mathlib.Nat.{div-add-mod'}
-use Rattle.line.specs.Entries.{Kind, lock, lockodd, badhead, command, pair, absent, refused, odd, mute, read, written, readbad, writebad, echo, end, closed, Entry, number, kinds, numbered, bytesOf, listBytes, fromBytes}
-use Rattle.line.specs.Text.{isEntry, isList}
+use Rattle.line.specs.Entries.{Kind, lock, lockodd, badhead, command, pair, absent, refused, odd, mute, read, written, readbad, writebad, echo, end, closed, Entry, number, kinds, numbered, bytesOf, fromBytes, listBytes}
+use Rattle.line.specs.Text.{isList}
 
 -- The table has each number once.
 pub numbered-own : (k : Kind) → numbered (number k) kinds ≡ some k
@@ -32,10 +31,7 @@ pub read-back : (e : Entry) → fromBytes (bytesOf e) ≡ some e
 unfolding fromBytes bytesOf
 read-back e = rw (numbered-own (e .kind), div-add-mod' (e .column) 256)
 
--- Any list's bytes are of the form that refusal 12 asks for.
-pub is-list : (es : List Entry) → isList (listBytes es) ≡ true
+pub bytes-list : (es : List Entry) → isList (listBytes es) ≡ true
 unfolding isList listBytes bytesOf
-is-list [] = refl
-is-list (e ∷ es) =
-    let one : isEntry (fromBytes (bytesOf e)) ≡ true = rw (read-back e) in
-    rw (one, is-list es)
+bytes-list [] = refl
+bytes-list (e ∷ es) = rw (read-back e) (bytes-list es)

@@ -16,7 +16,7 @@ use Rattle.line.specs.Rest.{Timed, power, rest, powerOn, Judged, still, 
 use Rattle.line.specs.Bits.{push}
 use Rattle.line.specs.Header.{Header, wrong, access, command, header}
 use Rattle.line.specs.Entries.{Entry, note}
-use Rattle.line.specs.Reader.{Locks, ones, upto, mixed, shown, Phase, deaf, locks, head, askR, askW, byteS, reads, writes, askP, Look, locked, headed, asked, look, Column, col, stepped, step, begun, entries, after, listFrom}
+use Rattle.line.specs.Reader.{Locks, ones, upto, mixed, shown, Phase, deaf, locks, head, askR, askW, byteS, reads, writes, askP, Look, locked, headed, asked, look, Column, col, columns, stepped, step, begun, entries, after, listFrom}
 use Rattle.line.specs.Runs.{Zeros, RunAt, FirstRun, NoRun, fromColumn}
 use Rattle.line.proofs.Rest.{moved, Soon, soon-moved, soon-rest, fourteen}
 use Rattle.line.proofs.Every.{Every, IfAny, either, tested, every-note}
@@ -155,6 +155,13 @@ pub masters-drop : (n : ℕ) (cs : List Column) → masters (drop n cs) ≡ drop
 masters-drop zero cs = refl
 masters-drop (suc n) [] = refl
 masters-drop (suc n) (col m x ∷ cs) = masters-drop n cs
+
+-- Of two rows of one length it is the first.
+pub masters-columns : (ms xs : List Bool) → length ms ≡ length xs → masters (columns ms xs) ≡ ms
+unfolding columns
+masters-columns [] xs e = refl
+masters-columns (m ∷ ms) [] e = absurd (omega arith)
+masters-columns (m ∷ ms) (x ∷ xs) e = ap (λ (l : List Bool). m ∷ l) (masters-columns ms xs (omega arith))
 
 -- The entries of the whole row from the end of a run on: those of a reader at rest there.
 pub from-run : (cs : List Column) (j : ℕ) → RunAt (masters cs) j

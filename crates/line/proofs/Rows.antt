@@ -1,9 +1,9 @@
--- A chain over rows: one row after another, and fourteen zeros, which bring every slave of any chain to rest. Assumes nothing.
+-- A chain over rows: one row after another, an answer a column, and fourteen zeros, which bring every slave of any chain to rest. Assumes nothing.
 use mathlib.Core.Path.{_≡_, refl, ap}
 use mathlib.Core.Bool.{Bool, false}
 use mathlib.Core.List.{List, [], _∷_, _++_}
 use Prim.Native.Nat.{ℕ, zero, suc}
-use lib.ListN.{replicate}
+use lib.ListN.{length, replicate}
 use Rattle.line.specs.Limits.{restZeros}
 use Rattle.line.specs.Rest.{rest, Judged, still, ends, meant, judge}
 use Rattle.line.specs.Memory.{Memory}
@@ -22,6 +22,12 @@ pub after-append : (ss : List Slave) (xs ys : List Bool) → after ss (xs ++ ys)
 unfolding after
 after-append ss [] ys = refl
 after-append ss (m ∷ xs) ys = after-append (column ss m .slaves) xs ys
+
+-- A chain answers every column.
+pub answers-length : (ss : List Slave) (row : List Bool) → length (answers ss row) ≡ length row
+unfolding answers
+answers-length ss [] = refl
+answers-length ss (m ∷ row) = ap suc (answers-length (column ss m .slaves) row)
 
 -- A slave is a machine behind Rest's judge.
 moves : (k : Memory) (m b : Bool) (j : Judged Phase) → stepped k j m b .slave .state ≡ moved begun (λ p. speak k p m b .next) j

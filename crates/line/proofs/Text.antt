@@ -96,7 +96,7 @@ no-fault : (form : List Form) (before : ℕ) (text : List ℕ) → fault form be
 unfolding fault
 no-fault form before text e = tested (begins form text) (λ q. q) (λ q. absurd (let z = rw q at e in omega arith))
 
-neither : (fault rest : ℕ) → orElse fault rest ≡ 0 → (fault ≡ 0) × (rest ≡ 0)
+pub neither : (fault rest : ℕ) → orElse fault rest ≡ 0 → (fault ≡ 0) × (rest ≡ 0)
 neither zero rest e = (refl, e)
 neither (suc n) rest e = absurd (omega arith)
 

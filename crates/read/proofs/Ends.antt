@@ -1,6 +1,6 @@
 -- How read ends: the refusals of the rows in the words of their branches, what lets rows through, and the two ends. Assumes nothing.
 use mathlib.Core.Path.{_≡_, refl, sym, _∙_}
-use mathlib.Core.Bool.{Bool, true, false, cond, not, _&&_, _||_, true≢false}
+use mathlib.Core.Bool.{Bool, true, false, cond, not, _&&_, _||_}
 use mathlib.Core.List.{List}
 use Prim.Native.Nat.{ℕ, _/_, _≤_, _<_}
 use native.Mathlib.Omega.{arith}
@@ -11,7 +11,7 @@ use Rattle.line.specs.Limits.{columnLimit}
 use Rattle.line.specs.Entries.{listBytes}
 use Rattle.job.specs.Outcome.{leaves, areBits}
 use Rattle.job.specs.declared.Outcome.the-variants.{Made, Refused}
-use Rattle.job.proofs.Ends.{not-first, then-rest, refused-answer, refused-leaves, made-answer}
+use Rattle.job.proofs.Ends.{not-first, then-rest, no-either, refused-answer, refused-leaves, made-answer}
 use Rattle.read.specs.Read.{listOf, refusal, Listed}
 use Rattle.read.specs.Parts.{rowsRefusal, Rows, filled}
 use Rattle.read.proofs.Filled.{length-bytes, filled-all}
@@ -34,9 +34,12 @@ passes false false true e last h = absurd (omega arith)
 passes false false false true last h = absurd (omega arith)
 passes false false false false last h = refl
 
-neither : (a b : Bool) → (a || b) ≡ false → (a ≡ false) × (b ≡ false)
-neither true b e = (e, absurd (true≢false e))
-neither false b e = (refl, e)
+before : (a b d e : Bool) (last : ℕ) → cascade a b d e last ≡ 0 → cascade a b d e 0 ≡ 0
+before true b d e last h = absurd (omega arith)
+before false true d e last h = absurd (omega arith)
+before false false true e last h = absurd (omega arith)
+before false false false true last h = absurd (omega arith)
+before false false false false last h = refl
 
 module _ (cdm cds : List ℕ) (k : ℕ) where
   abbrev long : Bool
@@ -94,7 +97,7 @@ module _ (cdm cds : List ℕ) (k : ℕ) where
       let second = then-rest long 4 _ e in
       let third = then-rest odd 5 _ second in
       record {
-        short = ltb-false _ _ (neither (ltb columnLimit (length cdm)) (ltb columnLimit (length cds)) (not-first long 4 _ e) .0);
+        short = ltb-false _ _ (no-either (ltb columnLimit (length cdm)) (ltb columnLimit (length cds)) (not-first long 4 _ e) .0);
         equal = eqb-true _ _ (not-false _ (not-first odd 5 _ second));
         within = ltb-false _ _ (not-first late 7 0 (then-rest bad 6 _ third));
       }
@@ -117,6 +120,15 @@ module _ (cdm cds : List ℕ) (k : ℕ) where
     unfolding rowsRefusal refusal
     room-left e = passes long odd bad late (crowded (length lent)) e
 
+    pub not-refused : rowsRefusal cdm cds k ≡ 0 → length (listBytes (listOf k cdm cds)) ≤ length lent
+        → refusal cdm cds k (length lent) ≡ 0
+    not-refused e h = rw (room-left e, le-ltb _ _ h)
+
+    -- And back: where nothing is refused, the rows are not.
+    pub rows-not-refused : refusal cdm cds k (length lent) ≡ 0 → rowsRefusal cdm cds k ≡ 0
+    unfolding rowsRefusal refusal
+    rows-not-refused e = before long odd bad late (crowded (length lent)) e
+
     module _ (through : rowsRefusal cdm cds k ≡ 0) (f : Bool) (fits : f ≡ leb (length (listOf k cdm cds)) (length lent / 6)) where
       pub room-refused : f ≡ false → (after : List ℕ) → after ≡ lent → Listed cdm cds k lent (Refused 9) after
       room-refused e after stays =
@@ -130,7 +142,7 @@ module _ (cdm cds : List ℕ) (k : ℕ) where
       list-made e n between after stays count laid =
           let enough : length (listOf k cdm cds) ≤ length lent / 6 = leb-true _ _ (sym fits ∙ e) in
           let no-more : length (listBytes (listOf k cdm cds)) ≤ length lent = omega (arith, length-bytes (listOf k cdm cds)) in
-          let none : refusal cdm cds k (length lent) ≡ 0 = rw (room-left through, le-ltb _ _ no-more) in
+          let none : refusal cdm cds k (length lent) ≡ 0 = not-refused through no-more in
           record {
             answers = rw count (made-answer (refusal cdm cds k (length lent)) (length (listOf k cdm cds)) none);
             leaves-list = rw (none, laid, stays) (filled-all (listOf k cdm cds) lent enough);

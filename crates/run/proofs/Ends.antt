@@ -1,27 +1,27 @@
 -- How run ends: what lets a chain through, and the two ends. Assumes nothing.
 use mathlib.Core.Path.{_≡_, sym, ap, _∙_}
-use mathlib.Core.Bool.{cond, not, _||_}
+use mathlib.Core.Bool.{true, cond, not, _||_}
 use mathlib.Core.List.{List, [], append-nil}
-use Prim.Native.Nat.{ℕ, _*_}
+use Prim.Native.Nat.{ℕ, _*_, _≤_}
 use native.Mathlib.Omega.{arith}
 use borrow.Author.Tests.{ltb-false, eqb-true, not-false}
 use lib.Dec.{ltb, eqb}
 use lib.ListN.{length, drop, drop-of-length-le}
 use Rattle.line.specs.Limits.{columnLimit, slaveLimit, registerCount}
-use Rattle.job.specs.Outcome.{leaves, noneAbove}
+use Rattle.job.specs.Outcome.{leaves, noneAbove, areBits}
 use Rattle.job.specs.declared.Outcome.the-variants.{Made, Refused}
-use Rattle.job.proofs.Ends.{not-first, then-rest, refused-answer, refused-leaves, made-answer}
+use Rattle.job.proofs.Ends.{not-first, then-rest, no-either, refused-answer, refused-leaves, made-answer}
 use Rattle.run.specs.Run.{rowRefusal, refusal, Ran}
 use Rattle.run.specs.Parts.{Holds, Rowed}
 
 -- A result as long as the lent bytes takes the place of all of them.
-made-whole : (why : ℕ) (result lent : List ℕ) → why ≡ 0 → length result ≡ length lent → result ≡ leaves why result lent
+pub made-whole : (why : ℕ) (result lent : List ℕ) → why ≡ 0 → length result ≡ length lent → result ≡ leaves why result lent
 unfolding leaves
 made-whole why result lent e h =
     let end : drop (length result) lent ≡ [] = drop-of-length-le lent {i = length result} (omega arith) in
     rw (e, end, append-nil result)
 
--- What no refusal says of the lent bytes: refusals 1 to 3, and 6.
+-- What no refusal says of the lent bytes: refusals 1 to 3, and 5 to 7.
 module _ (slaves : ℕ) (registers rights cdm cds : List ℕ) (e : refusal slaves (length registers) rights cdm (length cds) ≡ 0) where
   past-one : cond (not (eqb (length registers) (registerCount * slaves))) 2
       (cond (not (eqb (length rights) (registerCount * slaves))) 3
@@ -50,12 +50,19 @@ module _ (slaves : ℕ) (registers rights cdm cds : List ℕ) (e : refusal slave
         all-rights = eqb-true _ _ (not-false _ (not-first _ 2 _ past-two));
       }
 
-  pub same-rows : length cds ≡ length cdm
+  past-five : _≡_ {A = ℕ} (cond (not (eqb (length cdm) (length cds))) 6 (cond (not (areBits cdm)) 7 0)) 0
   unfolding rowRefusal
-  same-rows =
-      sym
-      (eqb-true _ _
-      (not-false _ (not-first _ 5 _ (then-rest (ltb columnLimit (length cdm) || ltb columnLimit (length cds)) 4 _ past-four))))
+  past-five = then-rest (ltb columnLimit (length cdm) || ltb columnLimit (length cds)) 4 _ past-four
+
+  pub short-row : length cdm ≤ columnLimit
+  unfolding rowRefusal
+  short-row = ltb-false _ _ (no-either (ltb columnLimit (length cdm)) (ltb columnLimit (length cds)) (not-first _ 4 _ past-four) .0)
+
+  pub same-rows : length cds ≡ length cdm
+  same-rows = sym (eqb-true _ _ (not-false _ (not-first _ 5 _ past-five)))
+
+  pub master-bits : areBits cdm ≡ true
+  master-bits = not-false _ (not-first _ 6 0 (then-rest (not (eqb (length cdm) (length cds))) 5 _ past-five))
 
 module _ (slaves : ℕ) (rights registers cdm cds : List ℕ) where
   pub ran-refused : (why : ℕ) → why ≡ refusal slaves (length registers) rights cdm (length cds) → (why ≡ 0 → ⊥)

@@ -15,7 +15,7 @@ use Rattle.run.specs.Parts.{sentBy, newBy, Passed, Rowed}
 use Rattle.run.proofs.Turned.{allSent, allLeft, answers-turned, after-turned}
 
 -- A row's bytes are its bits.
-row-num : (bs : List Bool) → rowOf (map num bs) ≡ bs
+pub row-num : (bs : List Bool) → rowOf (map num bs) ≡ bs
 unfolding rowOf
 row-num [] = refl
 row-num (true ∷ bs) = ap (λ (l : List Bool). true ∷ l) (row-num bs)

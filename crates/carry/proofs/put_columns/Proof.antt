@@ -5,8 +5,10 @@ use Prim.Native.Nat.{_+_, _-_, _*_, _≤_}
 use borrow.Author.Needs.{needs}
 use lib.ListN.{length, drop}
 use lib.Seq.{sets}
-use Rattle.carry.proofs.Columns.{bit-at, column-more, column-none, lines-length}
+use Rattle.carry.proofs.Columns.{column-more, column-none, lines-length}
 use Rattle.line.specs.Text.{columnLines}
+use Rattle.job.specs.Outcome.{areBits}
+use Rattle.job.proofs.Bits.{byte-at}
 use Rattle.print.proofs.Runs.{run-laid, laid-length}
 use Rattle.carry.proofs.put_columns.Statement.{statement}
 use Rattle.carry.proofs.put_columns.Tie as tie
@@ -29,11 +31,12 @@ shared-slice-read-put-column-2 : tie.Need-shared-slice-read-put-column-2 Inv-loo
 shared-slice-read-put-column-2 c = search needs
 
 put-column-requires : tie.Need-put-column-requires Inv-loop μ-loop
+unfolding areBits
 put-column-requires c κs =
     let turn = c .before .before .before in
     let l = turn .before .loop in
     let start = turn .before .before .before .before .before in
-    (search needs, bit-at _ (l .k) (start .pre .2) (search needs), bit-at _ (l .k) (start .pre .3) (search needs))
+    (search needs, byte-at _ _ (l .k) (start .pre .2), byte-at _ _ (l .k) (start .pre .3))
 
 add-k : tie.Need-add-k Inv-loop μ-loop
 add-k c = search needs

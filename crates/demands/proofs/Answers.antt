@@ -1,0 +1,101 @@
+-- What an accepted run leaves: its answer row, that its two rows are rows to read, and what line demands of their list.
+-- Assumes nothing.
+use mathlib.Core.Path.{_≡_, refl, sym, ap, _∙_}
+use mathlib.Core.Bool.{true}
+use mathlib.Core.List.{List, map}
+use Prim.Native.Nat.{ℕ, _*_, _≤_}
+use native.Mathlib.Omega.{arith}
+use lib.ListN.{length, length-map}
+use Rattle.line.specs.Bits.{num, bitOf, rowOf}
+use Rattle.line.specs.Memory.{Memory}
+use Rattle.line.specs.Chain.{switchedOn, answersFrom, memoriesAfter}
+use Rattle.line.specs.Reader.{columns, listFrom}
+use Rattle.line.specs.Account.{account}
+use Rattle.line.specs.Replay.{replay, Shows}
+use Rattle.line.proofs.Memories.{Bytes}
+use Rattle.line.proofs.Rows.{answers-length}
+use Rattle.line.proofs.Demands as line
+use Rattle.job.specs.Outcome.{areBits}
+use Rattle.job.specs.declared.Outcome.the-variants.{Made}
+use Rattle.job.proofs.Bits.{num-bits}
+use Rattle.job.proofs.Ends.{was-made}
+use Rattle.run.specs.Run.{memoriesOf, registersOf, refusal, Ran}
+use Rattle.run.proofs.Rows.{row-num}
+use Rattle.run.proofs.Ends.{made-whole, held, short-row, same-rows, master-bits}
+use Rattle.read.specs.Read as Read
+use Rattle.read.specs.Read.{listOf}
+use Rattle.read.specs.Parts.{rowsRefusal}
+use Rattle.read.proofs.Filled.{length-bytes}
+use Rattle.read.proofs.Left.{length-list}
+use Rattle.read.proofs.Ends.{rows-good, not-refused}
+use Rattle.demands.specs.Lent.{areBytes}
+use Rattle.demands.proofs.Chains.{memories-bytes, registers-back, replay-length}
+
+module _ {slaves c : ℕ} {rights registers cdm cds registers′ cds′ : List ℕ}
+    (ran : Ran slaves rights registers cdm cds (Made c) registers′ cds′) where
+  -- The chain's memories as they were lent.
+  abbrev chain : List Memory
+  chain = memoriesOf slaves registers rights
+
+  none : refusal slaves (length registers) rights cdm (length cds) ≡ 0
+  none = was-made _ _ (ran .answers) .0
+
+  answers-long : length (map num (answersFrom chain (rowOf cdm))) ≡ length cdm
+  unfolding answersFrom rowOf
+  answers-long =
+      length-map (answersFrom chain (rowOf cdm)) num ∙ answers-length (switchedOn chain) (rowOf cdm) ∙ length-map cdm bitOf
+
+  -- The lent answer row holds the chain's answers, and nothing else.
+  pub row-bytes : cds′ ≡ map num (answersFrom chain (rowOf cdm))
+  row-bytes =
+      ran .leaves-row
+      ∙ sym (made-whole _ _ cds none (answers-long ∙ sym (same-rows slaves registers rights cdm cds none)))
+
+  row-answers : rowOf cds′ ≡ answersFrom chain (rowOf cdm)
+  row-answers = ap rowOf row-bytes ∙ row-num (answersFrom chain (rowOf cdm))
+
+  row-long : length cds′ ≡ length cdm
+  row-long = ap length row-bytes ∙ answers-long
+
+  -- Read refuses neither row by 5 to 8, and six bytes a column are room enough.
+  rows-right : (k : ℕ) → k ≤ length cdm → rowsRefusal cdm cds′ k ≡ 0
+  rows-right k h =
+      let short = short-row slaves registers rights cdm cds none in
+      let bits : areBits cds′ ≡ true = rw row-bytes (num-bits (answersFrom chain (rowOf cdm))) in
+      sym
+      (rows-good cdm cds′ k short (omega (arith, row-long)) (sym row-long)
+      true (sym (master-bits slaves registers rights cdm cds none)) true (sym bits) refl refl h)
+
+  pub rows-read : (k : ℕ) (lent : List ℕ) → k ≤ length cdm → 6 * length cdm ≤ length lent
+      → Read.refusal cdm cds′ k (length lent) ≡ 0
+  rows-read k lent h room =
+      not-refused cdm cds′ k lent (rows-right k h) (omega (arith, length-bytes (listOf k cdm cds′), length-list k cdm cds′))
+
+  -- The list of the two rows is that of the master row and the chain's answers.
+  pub row-list : listOf 0 cdm cds′ ≡ listFrom 0 (columns (rowOf cdm) (answersFrom chain (rowOf cdm)))
+  unfolding listOf
+  row-list = rw row-answers
+
+  -- Line's demands, of that list: it is the account, ..
+  module _ (bytes : areBytes registers ≡ true) where
+    chain-bytes : Bytes chain
+    chain-bytes = memories-bytes slaves registers rights bytes
+
+    pub row-account : listOf 0 cdm cds′ ≡ account chain (rowOf cdm)
+    row-account = row-list ∙ line.list-is-account chain (rowOf cdm) chain-bytes
+
+    -- .. its reads show what stood there, ..
+    pub row-shows : Shows chain (listOf 0 cdm cds′)
+    row-shows = rw row-list (line.reads-show chain (rowOf cdm) chain-bytes)
+
+    -- .. and its replay gives the lent registers, all of them, as run left them.
+    row-final : replay chain (listOf 0 cdm cds′) ≡ memoriesAfter chain (rowOf cdm)
+    row-final = rw row-list (line.replay-is-final chain (rowOf cdm) chain-bytes)
+
+    pub row-replay : registersOf (replay chain (listOf 0 cdm cds′)) ≡ registers′
+    row-replay =
+        let as-lent : registersOf chain ≡ registers
+        = registers-back slaves registers rights (held slaves registers rights cdm cds none .all-registers) in
+        let long : length (registersOf (memoriesAfter chain (rowOf cdm))) ≡ length registers
+        = rw (← row-final) (replay-length chain (listOf 0 cdm cds′) ∙ ap length as-lent) in
+        ap registersOf row-final ∙ made-whole _ _ registers none long ∙ sym (ran .leaves-registers)

@@ -1,0 +1,136 @@
+-- What the scope demands, of the jobs' own results: byte rows, chains of up to 16 slaves, registers and rights as they are lent. `Made`
+-- says that a job accepted; a name with a prime, or `after`, is what it left in the buffer that was lent to it. That fourteen zeros bring
+-- every slave and the reader to rest speaks of states and not of results: line's slaves-rest and reader-rests. Assumes nothing.
+use mathlib.Core.Path.{_≡_, refl, sym, ap, _∙_}
+use mathlib.Core.Bool.{true, false}
+use mathlib.Core.List.{List, map}
+use Prim.Native.Nat.{ℕ, _+_, _*_, _≤_, _<_}
+use native.Mathlib.Omega.{arith}
+use borrow.Author.Tests.{le-ltb}
+use lib.ListN.{length, take}
+use Rattle.line.specs.Limits.{restZeros}
+use Rattle.line.specs.Bits.{num, rowOf}
+use Rattle.line.specs.Entries.{listBytes}
+use Rattle.line.specs.Account.{account}
+use Rattle.line.specs.Replay.{replay, Shows}
+use Rattle.line.specs.Runs.{FirstRun, NoRun, fromColumn}
+use Rattle.line.specs.Text.{rowsText, listText, cdmOf, cdsOf, isList}
+use Rattle.line.proofs.Codec.{bytes-list}
+use Rattle.line.proofs.Demands as line
+use Rattle.line.proofs.Text.{back-and-there}
+use Rattle.job.specs.declared.Outcome.{Outcome}
+use Rattle.job.specs.declared.Outcome.the-variants.{Made}
+use Rattle.job.proofs.Ends.{made-answer}
+use Rattle.run.specs.Run.{memoriesOf, registersOf, Ran}
+use Rattle.read.specs.Read.{listOf, Listed}
+use Rattle.print.proofs.Ends.{was-printed}
+use Rattle.entries.specs.Lists.{ListPrinted}
+use Rattle.entries.proofs.Lists.{list-none}
+use Rattle.carry.specs.Carry.{RowsPrinted, RowsTaken}
+use Rattle.carry.specs.declared.Taken.{Taken}
+use Rattle.carry.specs.declared.Taken.the-variants.{Columns}
+use Rattle.demands.specs.Lent.{areBytes, listIn, entriesIn, kindAt, isFault, DifferUnread}
+use Rattle.demands.proofs.Chains.{all-alike}
+use Rattle.demands.proofs.Lists.{list-count, list-bytes, list-entries, list-empty, list-late, list-never, no-fault-at}
+use Rattle.demands.proofs.Answers.{row-bytes, rows-read, row-account, row-shows, row-replay}
+use Rattle.demands.proofs.Texts.{rows-taken, printed-back, printed-taken}
+
+-- A run that was accepted, on registers lent as bytes, and the list that read made of the master row and the answer row alone.
+module _ {slaves c n : ℕ} {rights registers cdm cds registers′ cds′ lent after : List ℕ} (bytes : areBytes registers ≡ true)
+    (ran : Ran slaves rights registers cdm cds (Made c) registers′ cds′) (listed : Listed cdm cds′ 0 lent (Made n) after) where
+  -- "The list read from the two rows alone is the chain's own account, entry for entry": as many entries, and every byte of them.
+  pub list-is-account : (n ≡ length (account (memoriesOf slaves registers rights) (rowOf cdm)))
+      × (listIn n after ≡ listBytes (account (memoriesOf slaves registers rights) (rowOf cdm)))
+  list-is-account = (list-count listed ∙ ap length (row-account ran bytes), list-bytes listed ∙ ap listBytes (row-account ran bytes))
+
+  -- "Its writes replayed on the starting registers give the final registers": those that run left.
+  pub replay-is-final : registersOf (replay (memoriesOf slaves registers rights) (entriesIn (listIn n after))) ≡ registers′
+  replay-is-final = rw (list-entries listed) (row-replay ran bytes)
+
+  -- "Each read shows the byte that stood there then": in the replay of the entries before it.
+  pub reads-show : Shows (memoriesOf slaves registers rights) (entriesIn (listIn n after))
+  reads-show = rw (list-entries listed) (row-shows ran bytes)
+
+  -- No entry of the list is of a kind 2, 8, 9, 12 or 14: only damaged rows show a fault.
+  pub no-faults : (place : ℕ) → place < n → isFault (kindAt (listIn n after) place) ≡ false
+  no-faults place h =
+      rw (list-is-account .1)
+      (no-fault-at (account (memoriesOf slaves registers rights) (rowOf cdm)) place (line.no-faults _ (rowOf cdm))
+      (omega (arith, list-is-account .0)))
+
+-- Every accepted run has such a list: read refuses its two rows from no opening column in them, if six bytes a column are lent.
+pub run-is-read : {slaves c k : ℕ} {rights registers cdm cds registers′ cds′ lent after : List ℕ} {answer : Outcome}
+    → Ran slaves rights registers cdm cds (Made c) registers′ cds′ → Listed cdm cds′ k lent answer after
+    → k ≤ length cdm → 6 * length cdm ≤ length lent → answer ≡ Made (length (listOf k cdm cds′))
+run-is-read {k} {lent} ran listed opening room =
+    listed .answers ∙ sym (made-answer _ _ (rows-read ran k lent opening room))
+
+-- The list that read made of any two rows, let in at column k.
+module _ {cdm cds lent after : List ℕ} {k n : ℕ} (listed : Listed cdm cds k lent (Made n) after) where
+  -- "A reader let in at column k lists exactly the full list's entries after the first run of fourteen master zeros" lying wholly at or
+  -- after k: the run begins at column j, and the full list is the one that read makes from column 0 ..
+  pub late-opening : {lent′ whole : List ℕ} {m j : ℕ} → Listed cdm cds 0 lent′ (Made m) whole → FirstRun (rowOf cdm) k j
+      → listIn n after ≡ listBytes (fromColumn (j + restZeros) (entriesIn (listIn m whole)))
+  late-opening {j} full first =
+      list-bytes listed
+      ∙ ap listBytes (list-late listed first ∙ ap (fromColumn (j + restZeros)) (sym (list-entries full)))
+
+  -- .. "or nothing if there is none": no entry, and no byte of the lent buffer changed.
+  pub late-nothing : NoRun (rowOf cdm) k → (n ≡ 0) × (after ≡ lent)
+  late-nothing never = list-empty listed (list-never listed never)
+
+  -- List to text never refuses it by 12, and with room for its text prints it.
+  pub list-prints : {room out : List ℕ} {answer : Outcome} → ListPrinted (listIn n after) room answer out
+      → length (listText (listIn n after)) ≤ length room → answer ≡ Made (length (listText (listIn n after)))
+  list-prints {room} printed enough =
+      let is-list : isList (listIn n after) ≡ true = rw (list-bytes listed) (bytes-list (listOf k cdm cds)) in
+      printed .answers ∙ sym (made-answer _ _ (list-none (listIn n after) (length room) is-list (le-ltb _ _ enough)))
+
+-- "Two runs with the same rights and master row that differ only in registers without the read right give the same answer row."
+pub two-runs : {slaves c d : ℕ} {rights cdm registers cds registers′ cds′ others row others′ row′ : List ℕ}
+    → Ran slaves rights registers cdm cds (Made c) registers′ cds′ → Ran slaves rights others cdm row (Made d) others′ row′
+    → DifferUnread rights registers others → cds′ ≡ row′
+two-runs {slaves} {cdm} ran ran′ differ =
+    row-bytes ran ∙ ap (map num) (line.two-runs _ _ (rowOf cdm) (all-alike slaves differ)) ∙ sym (row-bytes ran′)
+
+-- "Rows go to text and back unchanged": what rows to text wrote, text to rows takes back, into rows with room for it.
+pub rows-come-back : (cdm cds : List ℕ) {lent text a b a′ b′ : List ℕ} {n : ℕ} {answer : Taken}
+    → RowsPrinted cdm cds lent (Made n) text → RowsTaken (take n text) a b answer a′ b′
+    → length cdm ≤ length a → length cdm ≤ length b
+    → (answer ≡ Columns (length cdm)) × (take (length cdm) a′ ≡ cdm) × (take (length cdm) b′ ≡ cds)
+rows-come-back cdm cds printed rows room room′ =
+    let accepted = printed-taken cdm cds printed rows room room′ in
+    let there = rows-taken (rw accepted at rows) in
+    let back = printed-back cdm cds printed in
+    (accepted, there .cdm-there ∙ back .cdm-back, there .cds-there ∙ back .cds-back)
+
+-- .. and a text that it takes is that of its rows, byte for byte.
+pub text-is-rows : {text a b a′ b′ : List ℕ} {c : ℕ} → RowsTaken text a b (Columns c) a′ b′ → text ≡ rowsText (take c a′) (take c b′)
+text-is-rows {text} rows =
+    let there = rows-taken rows in rw (there .cdm-there, there .cds-there) (back-and-there text (there .good))
+
+-- Text to rows, read and list to text, one after the other on any text, as a program does that indexes a recording.
+module _ {text a b a′ b′ lent list room out : List ℕ} {c k n p : ℕ} (rows : RowsTaken text a b (Columns c) a′ b′)
+    (listed : Listed (take c a′) (take c b′) k lent (Made n) list) (printed : ListPrinted (listIn n list) room (Made p) out) where
+  -- What is printed is the list of the rows in the text ..
+  pub list-is-printed : take p out ≡ listText (listBytes (listOf k (cdmOf text) (cdsOf text)))
+  list-is-printed =
+      let there = rows-taken rows in
+      was-printed printed .2 ∙ ap listText (list-bytes listed ∙ rw (there .cdm-there, there .cds-there))
+
+  -- .. and of a text that rows to text wrote it is the list of the rows that were written.
+  pub written-is-printed : (cdm cds : List ℕ) {lent′ written : List ℕ} {m : ℕ} → RowsPrinted cdm cds lent′ (Made m) written
+      → text ≡ take m written → take p out ≡ listText (listBytes (listOf k cdm cds))
+  written-is-printed cdm cds wrote same =
+      let back = printed-back cdm cds wrote in
+      list-is-printed ∙ rw (same, back .cdm-back, back .cds-back)
+
+-- All of it: a chain is run, its rows are written as text, the text is indexed, and what is printed is the chain's own account.
+pub account-is-printed : {slaves c d n m p : ℕ}
+    {rights registers cdm cds registers′ cds′ lent written a b a′ b′ lent′ list room out : List ℕ} → areBytes registers ≡ true
+    → Ran slaves rights registers cdm cds (Made c) registers′ cds′ → RowsPrinted cdm cds′ lent (Made m) written
+    → RowsTaken (take m written) a b (Columns d) a′ b′ → Listed (take d a′) (take d b′) 0 lent′ (Made n) list
+    → ListPrinted (listIn n list) room (Made p) out
+    → take p out ≡ listText (listBytes (account (memoriesOf slaves registers rights) (rowOf cdm)))
+account-is-printed {cdm} {cds′} bytes ran wrote rows listed printed =
+    written-is-printed rows listed printed cdm cds′ wrote refl ∙ rw (row-account ran bytes)

@@ -1,0 +1,76 @@
+-- A list in its buffer: read back entry by entry, its kinds, and what it says that read made it. Assumes nothing.
+use mathlib.Core.Path.{_≡_, refl, sym, ap, _∙_}
+use mathlib.Core.Bool.{false}
+use mathlib.Core.List.{List, [], _∷_}
+use Prim.Native.Nat.{ℕ, zero, suc, _+_, _*_, _<_}
+use native.Mathlib.Omega.{arith}
+use lib.ListN.{length, length-map}
+use Rattle.line.specs.Bits.{bitOf, rowOf}
+use Rattle.line.specs.Entries.{Entry, bytesOf, listBytes}
+use Rattle.line.specs.Limits.{restZeros}
+use Rattle.line.specs.Reader.{columns}
+use Rattle.line.specs.Runs.{FirstRun, NoRun, fromColumn}
+use Rattle.line.proofs.Every.{Every}
+use Rattle.line.proofs.Codec.{read-back}
+use Rattle.line.proofs.Late.{masters, masters-columns}
+use Rattle.line.proofs.Honest.{Sound}
+use Rattle.line.proofs.Demands as line
+use Rattle.job.specs.Outcome.{leaves}
+use Rattle.job.specs.declared.Outcome.the-variants.{Made}
+use Rattle.job.proofs.Ends.{was-made, result-first}
+use Rattle.read.specs.Read.{listOf, refusal, Listed}
+use Rattle.read.proofs.Filled.{length-bytes}
+use Rattle.read.proofs.Ends.{rows-through, rows-not-refused}
+use Rattle.demands.specs.Lent.{listIn, entriesIn, kindAt, isFault}
+
+-- A list's bytes give its entries again ..
+pub entries-back : (es : List Entry) → entriesIn (listBytes es) ≡ es
+unfolding entriesIn listBytes bytesOf
+entries-back [] = refl
+entries-back (e ∷ es) = rw (read-back e) (ap (λ (l : List Entry). e ∷ l) (entries-back es))
+
+-- .. and of entries that are no faults no fault's number.
+pub no-fault-at : (es : List Entry) (i : ℕ) → Every Sound es → i < length es → isFault (kindAt (listBytes es) i) ≡ false
+unfolding isFault kindAt listBytes bytesOf
+no-fault-at [] i sound h = absurd (omega arith)
+no-fault-at (e ∷ es) zero sound h = sound .0
+no-fault-at (e ∷ es) (suc i) sound h =
+    let six : 6 * suc i ≡ suc (suc (suc (suc (suc (suc (6 * i)))))) = omega arith in
+    rw six (no-fault-at es i (sound .1) (omega arith))
+
+-- What it says that read made a list.
+module _ {cdm cds lent after : List ℕ} {k n : ℕ} (listed : Listed cdm cds k lent (Made n) after) where
+  none : refusal cdm cds k (length lent) ≡ 0
+  none = was-made _ _ (listed .answers) .0
+
+  pub list-count : n ≡ length (listOf k cdm cds)
+  list-count = was-made _ _ (listed .answers) .1
+
+  pub list-bytes : listIn n after ≡ listBytes (listOf k cdm cds)
+  unfolding listIn
+  list-bytes =
+      rw (list-count, ← length-bytes (listOf k cdm cds), listed .leaves-list)
+      (result-first (refusal cdm cds k (length lent)) (listBytes (listOf k cdm cds)) lent none)
+
+  pub list-entries : entriesIn (listIn n after) ≡ listOf k cdm cds
+  list-entries = ap entriesIn list-bytes ∙ entries-back (listOf k cdm cds)
+
+  -- Of no entries nothing is left in the buffer.
+  pub list-empty : listOf k cdm cds ≡ [] → (n ≡ 0) × (after ≡ lent)
+  unfolding leaves listBytes
+  list-empty e = (list-count ∙ ap length e, rw (none, e) at (listed .leaves-list))
+
+  -- The CDM row of its columns is the master row, so line's late opening is one of the master row.
+  list-masters : masters (columns (rowOf cdm) (rowOf cds)) ≡ rowOf cdm
+  unfolding rowOf
+  list-masters =
+      let rows = rows-through cdm cds k (rows-not-refused cdm cds k lent none) in
+      masters-columns (rowOf cdm) (rowOf cds) (length-map cdm bitOf ∙ rows .equal ∙ sym (length-map cds bitOf))
+
+  pub list-late : {j : ℕ} → FirstRun (rowOf cdm) k j → listOf k cdm cds ≡ fromColumn (j + restZeros) (listOf 0 cdm cds)
+  unfolding listOf
+  list-late {j} first = line.late-opening _ k j (rw list-masters first)
+
+  pub list-never : NoRun (rowOf cdm) k → listOf k cdm cds ≡ []
+  unfolding listOf
+  list-never never = line.late-nothing _ k (rw list-masters never)
