@@ -17,6 +17,8 @@ use rows::long_row;
 const TWO_16: usize = 1 << 16;
 const TWO_32: usize = 1 << 32;
 const TWO_57: usize = 1 << 57;
+/// Larger than any row, and small if cut to sixteen bits.
+const LARGE: usize = 3 * TWO_32;
 
 const BAD_ROW_BYTES: &[u8] = &[2, 3, 48, 49, 128, 254, 255];
 
@@ -240,6 +242,26 @@ fn read(random: &mut Random) -> Case {
     let mut case = Case::new(Job::Read, vec![opening], lent).marked(marks);
     case.answers = Some(rows.answers);
     case
+}
+
+/// A text for the indexing program, whole, too long or damaged, and an opening
+/// column, at times past its end.
+pub fn recorded_text(random: &mut Random) -> (Vec<u8>, usize) {
+    let (mut text, mut columns) = texts::text(random);
+    if random.one_in(3) {
+        columns = texts::lengthen(random, &mut text);
+    }
+    if random.one_in(4) {
+        columns += random.below(40_000);
+        text.resize(8 + 4 * columns, 0);
+        text[8..].chunks_exact_mut(4).for_each(|line| line.copy_from_slice(b"1\t0\n"));
+    }
+    if random.one_in(3) {
+        texts::damage(random, &mut text);
+    }
+    let within = random.below(columns + 1);
+    let opening = random.pick(&[0, 0, within, within, columns, columns + 1, LARGE, usize::MAX]);
+    (text, opening)
 }
 
 fn text_to_rows(random: &mut Random) -> Case {

@@ -9,11 +9,13 @@ mod counts;
 mod generate;
 mod library;
 mod model;
+mod programs;
 mod selftest;
 mod shrink;
 
 use compare::{compare, describe};
 use counts::Counts;
+use std::path::Path;
 use std::process::ExitCode;
 use std::sync::atomic::{AtomicBool, AtomicU64, Ordering};
 use std::thread;
@@ -21,6 +23,8 @@ use std::time::{Duration, Instant};
 
 const USUAL_CASES: u64 = 600_000;
 const THREADS: u64 = 2;
+/// From the folder that harness/run starts in.
+const CRATES: &str = "../crates";
 
 const HELP: &str = "\
 harness                   the bench card on the model, then 600,000 cases
@@ -29,6 +33,9 @@ harness seed S            one case, shown
 harness watch FIRST N     N cases on one thread, each seed printed before it
                           runs: the last one printed is the one that crashed
 harness bench             times model against library
+harness programs [write]  the files of the indexing program's crates held to the
+                          model, or written
+harness index PROGRAM N   the linked program on the texts of N seeds
 harness selftest          the bench card on the model
 harness --help            this text
 
@@ -176,6 +183,9 @@ fn obey(words: &[&str]) -> Option<bool> {
         ["seed", seed] => one_seed(seed.parse().ok()?),
         ["watch", first, cases] => watch(first.parse().ok()?, cases.parse().ok()?),
         ["selftest"] => selftest(),
+        ["programs"] => programs::agree(Path::new(CRATES)),
+        ["programs", "write"] => programs::write(Path::new(CRATES)),
+        ["index", program, texts] => programs::linked(program, texts.parse().ok()?),
         ["bench"] => {
             bench::bench();
             true

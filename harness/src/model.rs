@@ -6,6 +6,7 @@ pub mod chain;
 pub mod check;
 pub mod entry;
 pub mod frame;
+pub mod index;
 pub mod list;
 pub mod phase;
 pub mod reader;
@@ -15,6 +16,7 @@ pub mod text;
 
 pub use build::{build_command, build_read, build_write};
 pub use chain::run;
+pub use index::index;
 pub use list::{list_to_text, read};
 pub use text::{rows_to_text, text_to_rows};
 

@@ -1,0 +1,4 @@
+// The indexing program: a bad byte on line 812.
+fn main() {
+    intake::index();
+}

@@ -1,0 +1,4 @@
+// The indexing program: an empty input.
+fn main() {
+    intake::index();
+}

@@ -1,0 +1,4 @@
+// The indexing program: a header alone: rows of no columns.
+fn main() {
+    intake::index();
+}

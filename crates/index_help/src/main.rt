@@ -1,0 +1,4 @@
+// The indexing program: asked for help.
+fn main() {
+    intake::index();
+}

@@ -1,0 +1,4 @@
+// The indexing program: 4,096 columns.
+fn main() {
+    intake::index();
+}

@@ -1,0 +1,4 @@
+// The indexing program: 4,097 columns.
+fn main() {
+    intake::index();
+}

@@ -1,0 +1,4 @@
+// The indexing program: the card's run, its last column off: no `end`.
+fn main() {
+    intake::index();
+}

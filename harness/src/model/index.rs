@@ -1,0 +1,33 @@
+//! The indexing program: two rows as text in, and out their list as text or
+//! the line of a refusal.
+
+use super::entry::ENTRY_BYTES;
+use super::rows::MOST_COLUMNS;
+use super::Outcome::{BadLine, Made, Refused};
+use super::{list_to_text, read, text_to_rows};
+
+/// A kind of at most eight letters, four numbers of at most five digits, four
+/// tabs and a line feed.
+const LONGEST_LINE: usize = 8 + 4 * 5 + 4 + 1;
+
+/// What the program prints.
+pub fn index(text: &[u8], opening: usize) -> Vec<u8> {
+    let (mut cdm, mut cds) = (vec![0; MOST_COLUMNS], vec![0; MOST_COLUMNS]);
+    let columns = match text_to_rows(text, &mut cdm, &mut cds) {
+        Made(columns) => columns,
+        Refused(number) => return format!("refused\t{number}\n").into_bytes(),
+        BadLine(line) => return format!("refused\t11\t{line}\n").into_bytes(),
+    };
+    let mut list = vec![0; ENTRY_BYTES * MOST_COLUMNS];
+    let entries = match read(&cdm[..columns], &cds[..columns], opening, &mut list) {
+        Made(entries) => entries,
+        Refused(number) => return format!("refused\t{number}\n").into_bytes(),
+        BadLine(line) => panic!("read answered line {line}"),
+    };
+    let mut printed = vec![0; LONGEST_LINE * (1 + entries)];
+    match list_to_text(&list[..ENTRY_BYTES * entries], &mut printed) {
+        Made(bytes) => printed.truncate(bytes),
+        other => panic!("the list of an admitted text was refused: {other:?}"),
+    }
+    printed
+}
