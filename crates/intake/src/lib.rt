@@ -1,12 +1,13 @@
 // The indexing program as a library: it reads standard input to its end, whatever its length and its pieces, and prints what answer
 // says of it. A read or a write that fails is told on standard error, and nothing is printed as if it were an answer.
+mod words;
+
 ghost use Prim.Native.Nat.{_+_, _≤_};
 ghost use mathlib.Core.Path.{_≡_};
 ghost use lib.ListN.{length};
 ghost use Rattle.io.specs.Counts.{Counts};
 ghost use Rattle.intake.specs.Counted.{Printable};
 use job::Outcome;
-use libc::STDERR_FILENO;
 use libc::STDIN_FILENO;
 use libc::STDOUT_FILENO;
 use opening::Asked;
@@ -47,20 +48,20 @@ pub fn index() {
         return;
     }
     if 2 < os::arg_count() {
-        usage();
+        words::usage();
         return;
     }
     let mut word = io::buffer();
     let n = os::arg(1, &mut word);
     if os::errno() != 0 {
-        usage();
+        words::usage();
         return;
     }
     let asked = opening::asked_by(&word[..n]);
     match asked {
         Asked::Column(column) => list(column),
-        Asked::Help => help(),
-        Asked::Unknown => usage(),
+        Asked::Help => words::help(),
+        Asked::Unknown => words::usage(),
     }
 }
 
@@ -69,7 +70,7 @@ fn list(opening: usize) {
     let mut text = piece_room();
     let filled = fill(&mut text);
     if filled.failed {
-        not_read();
+        words::not_read();
         return;
     }
     let n = filled.count;
@@ -116,12 +117,12 @@ fn list_rest() {
                 return;
             }
             Piece::Failed => {
-                not_read();
+                words::not_read();
                 return;
             }
         }
     }
-    no_end();
+    words::no_end();
 }
 
 // The next piece, with so many lines before it.
@@ -160,10 +161,10 @@ fn print(out: &[u8], answered: Outcome)
     match answered {
         Outcome::Made(n) => {
             if !io::write_all(STDOUT_FILENO, &out[..n]) {
-                os::fail(b"index: standard output");
+                words::not_written();
             }
         }
-        Outcome::Refused(_) => no_room(),
+        Outcome::Refused(_) => words::no_room(),
     }
 }
 
@@ -206,68 +207,6 @@ fn read_some(buf: &mut [u8], from: usize) -> Filled
         count,
         failed: got < 0,
     }
-}
-
-fn not_read() {
-    os::fail(b"index: standard input");
-}
-
-fn no_room() {
-    io::write_all(
-        STDERR_FILENO,
-        b"index: the answer is longer than its buffer\n",
-    );
-}
-
-fn no_end() {
-    io::write_all(STDERR_FILENO, b"index: standard input does not end\n");
-}
-
-fn usage() {
-    io::write_all(
-        STDERR_FILENO,
-        b"usage: index [opening column] < rows (index --help says more)\n",
-    );
-}
-
-fn help() {
-    io::write_all(STDOUT_FILENO, b"index [opening column] < rows\n");
-    io::write_all(
-        STDOUT_FILENO,
-        b"Lists what two recorded rows of BiSS C control bits show, as text.\n",
-    );
-    io::write_all(
-        STDOUT_FILENO,
-        b"Standard input: a line `cdm` TAB `cds`, then a line a column: 0 or 1, TAB,\n",
-    );
-    io::write_all(
-        STDOUT_FILENO,
-        b"0 or 1; every line ends in LF. At most 4,096 columns, counted from 0.\n",
-    );
-    io::write_all(
-        STDOUT_FILENO,
-        b"Standard output: a line of names, then a line an entry: its kind, its column,\n",
-    );
-    io::write_all(
-        STDOUT_FILENO,
-        b"id, address and value, or `-` for what the kind does not name.\n",
-    );
-    io::write_all(
-        STDOUT_FILENO,
-        b"On a refusal only: `refused` TAB its number: 5 more than 4,096 columns,\n",
-    );
-    io::write_all(
-        STDOUT_FILENO,
-        b"8 opening column past the rows, 11 a bad line, TAB the first one, from 1.\n",
-    );
-    io::write_all(
-        STDOUT_FILENO,
-        b"From an opening column on, entries are listed after the first fourteen\n",
-    );
-    io::write_all(
-        STDOUT_FILENO,
-        b"zeros of the master: nothing before them can be told for certain.\n",
-    );
 }
 
 fn piece_room() -> [u8; PIECE]

@@ -15,11 +15,8 @@ slice-aggregate-write-all c =
 write-all-requires : tie.Need-write-all-requires
 write-all-requires c κs = search needs
 
-slice-aggregate-fail : tie.Need-slice-aggregate-fail
-slice-aggregate-fail c = search needs
-
-fail-requires : tie.Need-fail-requires
-fail-requires c κs = search needs
+not-written-requires : tie.Need-not-written-requires
+not-written-requires c κs = search needs
 
 enum-told : tie.Need-enum-told
 enum-told c = search needs
@@ -43,8 +40,7 @@ print-spec =
     enum-known-answered
     slice-aggregate-write-all
     write-all-requires
-    slice-aggregate-fail
-    fail-requires
+    not-written-requires
     enum-told
     no-room-requires
     returns

@@ -1,0 +1,47 @@
+// What the indexing program says beside its answers: help on standard output, all else on standard error.
+use libc::STDERR_FILENO;
+use libc::STDOUT_FILENO;
+
+pub fn help() {
+    let written = say(b"index [opening column] < rows\n")
+        && say(b"Lists what two recorded rows of BiSS C control bits show, as text.\n")
+        && say(b"Standard input: a line `cdm` TAB `cds`, then a line a column: 0 or 1, TAB,\n")
+        && say(b"0 or 1; every line ends in LF. At most 4,096 columns, counted from 0.\n")
+        && say(b"Standard output: a line of names, then a line an entry: its kind, its column,\n")
+        && say(b"id, address and value, or `-` for what the kind does not name.\n")
+        && say(b"On a refusal only: `refused` TAB its number: 5 more than 4,096 columns,\n")
+        && say(b"8 opening column past the rows, 11 a bad line, TAB the first one, from 1.\n")
+        && say(b"From an opening column on, entries are listed after the first fourteen\n")
+        && say(b"zeros of the master: nothing before them can be told for certain.\n");
+    if !written {
+        not_written();
+    }
+}
+
+fn say(line: &[u8]) -> bool {
+    io::write_all(STDOUT_FILENO, line)
+}
+
+pub fn usage() {
+    complain(b"usage: index [opening column] < rows (index --help says more)\n");
+}
+
+pub fn no_room() {
+    complain(b"index: the answer is longer than its buffer\n");
+}
+
+pub fn no_end() {
+    complain(b"index: standard input does not end\n");
+}
+
+fn complain(line: &[u8]) {
+    io::write_all(STDERR_FILENO, line);
+}
+
+pub fn not_read() {
+    os::fail(b"index: standard input");
+}
+
+pub fn not_written() {
+    os::fail(b"index: standard output");
+}
