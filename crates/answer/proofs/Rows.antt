@@ -1,11 +1,11 @@
 -- What the jobs say that the answer calls, in rooms that any result fits. Assumes nothing.
 use mathlib.Core.Path.{_≡_, refl, sym, ap, _∙_}
-use mathlib.Core.Bool.{Bool, true, false, cond, not, _&&_}
+use mathlib.Core.Bool.{true, false, cond}
 use mathlib.Core.List.{List, [], _∷_}
 use Prim.Native.Nat.{ℕ, _+_, _*_, _%_, _≤_, _<_}
 use native.Mathlib.Omega.{arith}
-use borrow.Author.Tests.{lt-ltb, le-ltb, ltb-true, ltb-false, eq-eqb, le-leb}
-use lib.Dec.{ltb, eqb}
+use borrow.Author.Tests.{lt-ltb, le-ltb, ltb-true, ltb-false, le-leb}
+use lib.Dec.{ltb}
 use lib.ListN.{length, length-append, take, drop, getD}
 use Rattle.line.specs.Limits.{columnLimit}
 use Rattle.line.specs.Entries.{listBytes}
@@ -15,15 +15,17 @@ use Rattle.line.proofs.Codec.{bytes-list}
 use Rattle.job.specs.Outcome.{outcome, leaves, noneAbove, areBits}
 use Rattle.job.specs.declared.Outcome.{Outcome}
 use Rattle.job.specs.declared.Outcome.the-variants.{Made, Refused}
+use Rattle.job.specs.Rows.{wrongRows}
 use Rattle.job.proofs.Ends.{result-first}
+use Rattle.job.proofs.Rows.{right-rows, not-wrong}
 use Rattle.read.specs.Read.{listOf, refusal, Listed}
 use Rattle.read.proofs.Filled.{length-bytes}
 use Rattle.read.proofs.Left.{length-list}
 use Rattle.entries.specs.Lists.{listRefusal, ListPrinted}
-use Rattle.carry.specs.Carry.{wrongRows, textRoom, textRefusal, taken, RowsTaken}
+use Rattle.carry.specs.Carry.{textRoom, textRefusal, taken, RowsTaken}
 use Rattle.carry.specs.declared.Taken.{Taken}
 use Rattle.carry.specs.declared.Taken.the-variants as Answer
-use Rattle.carry.proofs.Ends.{Right, right-rows, by-bytes, columns-in}
+use Rattle.carry.proofs.Ends.{columns-in}
 use Rattle.answer.specs.Answer.{refusedText, rowsAnswer, answerText, longAnswer, Whole}
 
 -- A buffer is no shorter than the result in it.
@@ -78,24 +80,14 @@ Lists cdm cds k after (Made n) = (k ≤ length cdm) × (6 * n ≤ length after) 
 Lists cdm cds k after (Refused n) = (length cdm < k) × (n ≡ 8)
 
 module _ (cdm cds : List ℕ) (k : ℕ) (none-wrong : wrongRows cdm cds ≡ 0) where
-  abbrev right : Right cdm cds
-  right = right-rows cdm cds none-wrong
-
   list-short : length (listBytes (listOf k cdm cds)) ≤ 6 * columnLimit
-  list-short = omega (arith, right .short, length-bytes (listOf k cdm cds), length-list k cdm cds)
+  list-short = omega (arith, right-rows cdm cds none-wrong .short, length-bytes (listOf k cdm cds), length-list k cdm cds)
 
   -- Only the opening column can be refused.
   by-opening : (room : ℕ) → 6 * columnLimit ≡ room → refusal cdm cds k room ≡ cond (ltb (length cdm) k) 8 0
   unfolding refusal
   by-opening room e =
-      rw (
-        le-ltb columnLimit (length cdm) (right .short),
-        le-ltb columnLimit (length cds) (rw (← right .same) (right .short)),
-        eq-eqb (length cdm) (length cds) (right .same),
-        right .cdm-bits,
-        right .cds-bits,
-        le-ltb room (length (listBytes (listOf k cdm cds))) (omega (arith, list-short)),
-      )
+      rw (none-wrong, le-ltb room (length (listBytes (listOf k cdm cds))) (omega (arith, list-short)))
 
   pub lists : (lent : List ℕ) {answer : Outcome} {after : List ℕ} → 6 * columnLimit ≡ length lent → Listed cdm cds k lent answer after
       → Lists cdm cds k after answer
@@ -124,8 +116,13 @@ unfolding cdmOf cdsOf
 rows-right {text} rows =
     let long = columns-in text in
     rw (rows .cdm-row, rows .cds-row)
-    (by-bytes (cdmOf text) (cdsOf text) (rows .short) (omega (arith, rows .short)) (long .0 ∙ sym (long .1))
-    ∙ rw (row-bits 0 (drop 8 text), row-bits 2 (drop 8 text)))
+    (not-wrong (cdmOf text) (cdsOf text)
+    (record {
+      short = rows .short;
+      same = long .0 ∙ sym (long .1);
+      cdm-bits = row-bits 0 (drop 8 text);
+      cds-bits = row-bits 2 (drop 8 text);
+    }))
 
 -- What is printed in each case.
 module _ (cdm cds : List ℕ) (k : ℕ) where

@@ -3,7 +3,7 @@ ghost use mathlib.Core.Path.{_≡_};
 ghost use mathlib.Core.List.{_∷_, [], _++_};
 ghost use Prim.Native.Nat.{_≤_};
 ghost use lib.ListN.{length};
-ghost use Rattle.carry.specs.Carry.{wrongRows};
+ghost use Rattle.job.specs.Rows.{wrongRows};
 ghost use Rattle.answer.specs.Answer.{fieldsToEnd, refusedText, rowsAnswer, longAnswer, Whole, Answered};
 use carry::Taken;
 use job::Outcome;

@@ -1,59 +1,26 @@
 -- How carry's calls end: what lets rows and texts through, and the ends of text to rows. Assumes nothing.
-use mathlib.Core.Path.{_≡_, refl, sym, ap, _∙_}
-use mathlib.Core.Bool.{Bool, true, false, cond, not, _&&_, _||_}
+use mathlib.Core.Path.{_≡_, sym, ap, _∙_}
+use mathlib.Core.Bool.{Bool, true, false, cond, _||_}
 use mathlib.Core.List.{List}
-use Prim.Native.Nat.{ℕ, zero, suc, _+_, _-_, _*_, _/_, _≤_, _<_}
+use Prim.Native.Nat.{ℕ, _+_, _-_, _*_, _/_, _≤_, _<_}
 use native.Mathlib.Omega.{arith}
-use borrow.Author.Tests.{lt-ltb, le-ltb, ltb-false, eqb-true, eq-eqb, ne-eqb, not-false}
+use borrow.Author.Tests.{lt-ltb, le-ltb, ltb-false, eqb-true, ne-eqb}
 use lib.Dec.{ltb, eqb}
 use lib.ListN.{length, length-drop, drop}
 use lib.Seq.{sets}
 use Rattle.line.specs.Limits.{columnLimit}
-use Rattle.line.specs.Text.{orElse, badLine, cdmOf, cdsOf}
+use Rattle.line.specs.Text.{badLine, cdmOf, cdsOf}
 use Rattle.line.proofs.Every.{tested}
-use Rattle.line.proofs.Text.{both}
-use Rattle.job.specs.Outcome.{areBits}
+use Rattle.job.specs.Rows.{wrongRows}
 use Rattle.job.proofs.Ends.{not-first, then-rest, no-either, refused-leaves, made-leaves}
-use Rattle.carry.specs.Carry.{wrongRows, rowsRefusal, textRoom, textRefusal, taken, RowsTaken}
+use Rattle.job.proofs.Rows.{first-counts, right-rows}
+use Rattle.carry.specs.Carry.{rowsRefusal, textRoom, textRefusal, taken, RowsTaken}
 use Rattle.carry.specs.declared.Taken.{Taken}
 use Rattle.carry.specs.declared.Taken.the-variants as Answer
 use Rattle.carry.proofs.Columns.{text-length, row-length}
 
--- The first number that is given counts.
-first-counts : (n rest : ℕ) → (n ≡ 0 → ⊥) → n ≡ orElse n rest
-first-counts zero rest h = absurd (h refl)
-first-counts (suc n) rest h = refl
-
--- Rows that are refused by none of 5, 6, 7.
-pub record Right (cdm cds : List ℕ) : Type 0 where
-  pub short : length cdm ≤ columnLimit
-  pub same : length cdm ≡ length cds
-  pub cdm-bits : areBits cdm ≡ true
-  pub cds-bits : areBits cds ≡ true
-
+-- The refusals of rows to text in the words of its branches.
 module _ (cdm cds : List ℕ) where
-  pub right-rows : wrongRows cdm cds ≡ 0 → Right cdm cds
-  unfolding wrongRows
-  right-rows e =
-      let long = ltb columnLimit (length cdm) || ltb columnLimit (length cds) in
-      let unlike = not (eqb (length cdm) (length cds)) in
-      let bad = not (areBits cdm && areBits cds) in
-      let six = then-rest long 4 (cond unlike 6 (cond bad 7 0)) e in
-      let seven = then-rest unlike 5 (cond bad 7 0) six in
-      let bits = both (areBits cdm) (areBits cds) (not-false _ (not-first bad 6 0 seven)) in
-      record {
-        short = ltb-false _ _ (no-either _ _ (not-first long 4 (cond unlike 6 (cond bad 7 0)) e) .0);
-        same = eqb-true _ _ (not-false _ (not-first unlike 5 (cond bad 7 0) six));
-        cdm-bits = bits .0;
-        cds-bits = bits .1;
-      }
-
-  -- Rows of one length that is not over the limit are refused by their bytes alone.
-  pub by-bytes : length cdm ≤ columnLimit → length cds ≤ columnLimit → length cdm ≡ length cds
-      → wrongRows cdm cds ≡ cond (not (areBits cdm && areBits cds)) 7 0
-  unfolding wrongRows
-  by-bytes m s e = rw (le-ltb columnLimit (length cdm) m, le-ltb columnLimit (length cds) s, eq-eqb (length cdm) (length cds) e)
-
   pub rows-wrong : (why room : ℕ) → why ≡ wrongRows cdm cds → (why ≡ 0 → ⊥) → why ≡ rowsRefusal cdm cds room
   unfolding rowsRefusal
   rows-wrong why room e h = rw (← e) (first-counts why _ h)
@@ -61,11 +28,11 @@ module _ (cdm cds : List ℕ) where
   module _ (room : ℕ) (e : wrongRows cdm cds ≡ 0) where
     pub rows-nine : room < 8 + 4 * length cdm → 9 ≡ rowsRefusal cdm cds room
     unfolding rowsRefusal
-    rows-nine h = rw (e, text-length cdm cds (right-rows e .same), lt-ltb _ _ h)
+    rows-nine h = rw (e, text-length cdm cds (right-rows cdm cds e .same), lt-ltb _ _ h)
 
     pub rows-none : 8 + 4 * length cdm ≤ room → rowsRefusal cdm cds room ≡ 0
     unfolding rowsRefusal
-    rows-none h = rw (e, text-length cdm cds (right-rows e .same), le-ltb _ _ h)
+    rows-none h = rw (e, text-length cdm cds (right-rows cdm cds e .same), le-ltb _ _ h)
 
 -- So many columns that are refused by neither 5 nor 9, and back; 11 is neither of them.
 pub room-enough : (n cdm cds : ℕ) → textRoom n cdm cds ≡ 0 → (n ≤ cdm) × (n ≤ cds)

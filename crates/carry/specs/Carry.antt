@@ -1,25 +1,20 @@
 -- Rows and text: when the two calls refuse, and what they make. The texts themselves are line's (specs/Text).
 use mathlib.Core.Path.{_≡_}
-use mathlib.Core.Bool.{cond, not, _&&_, _||_}
+use mathlib.Core.Bool.{cond, _||_}
 use mathlib.Core.List.{List}
 use Prim.Native.Nat.{ℕ}
 use lib.Dec.{ltb, eqb}
 use lib.ListN.{length}
 use Rattle.line.specs.Limits.{columnLimit}
 use Rattle.line.specs.Text.{orElse, rowsText, badLine, cdmOf, cdsOf}
-use Rattle.job.specs.Outcome.{leaves, areBits}
+use Rattle.job.specs.Outcome.{leaves}
+use Rattle.job.specs.Rows.{wrongRows}
 use Rattle.job.specs.declared.Outcome.{Outcome}
 use Rattle.print.specs.Printed.{Printed}
 use Rattle.carry.specs.declared.Taken.{Taken}
 use Rattle.carry.specs.declared.Taken.the-variants.{Columns, Refused, BadLine}
 
--- Refusals 5 "a row of more than 4,096 columns", 6 "two rows of different length", 7 "a row byte that is not 0 or 1".
-unfoldable pub wrongRows : (cdm cds : List ℕ) → ℕ
-wrongRows cdm cds =
-    cond (ltb columnLimit (length cdm) || ltb columnLimit (length cds)) 5
-    (cond (not (eqb (length cdm) (length cds))) 6 (cond (not (areBits cdm && areBits cds)) 7 0))
-
--- "Rows to text: 5, 6, 7, 9."
+-- "Rows to text: 5, 6, 7, 9." 5 to 7 are those of any rows (job's specs/Rows).
 unfoldable pub rowsRefusal : (cdm cds : List ℕ) → (room : ℕ) → ℕ
 rowsRefusal cdm cds room = orElse (wrongRows cdm cds) (cond (ltb room (length (rowsText cdm cds))) 9 0)
 

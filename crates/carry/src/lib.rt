@@ -8,7 +8,7 @@ ghost use lib.Seq.{sets};
 ghost use Rattle.line.specs.Text.{columnLine, columnLines, cdmOf, cdsOf};
 ghost use Rattle.job.specs.Outcome.{areBits};
 ghost use Rattle.print.specs.Laid.{Laid};
-ghost use Rattle.carry.specs.Carry.{wrongRows, textRoom, RowsPrinted, RowsTaken};
+ghost use Rattle.carry.specs.Carry.{textRoom, RowsPrinted, RowsTaken};
 use job::Outcome;
 
 // Columns: "A row has 0 to 4,096 columns."
@@ -33,7 +33,7 @@ pub enum Taken {
 pub fn rows_to_text(cdm: &[u8], cds: &[u8], out: &mut [u8]) -> Outcome
     ensures { λ r. ⌜ RowsPrinted (now (cdm .entry)) (now (cds .entry)) (now (out .entry)) r (now (out .exit)) ⌝ }
 {
-    let why = wrong_rows(cdm, cds);
+    let why = job::wrong_rows(cdm, cds);
     if why != 0 {
         return Outcome::Refused(why);
     }
@@ -43,26 +43,6 @@ pub fn rows_to_text(cdm: &[u8], cds: &[u8], out: &mut [u8]) -> Outcome
     let p = print::put_bytes(out, 0, b"cdm\tcds\n");
     let n = put_columns(out, p, cdm, cds);
     Outcome::Made(n)
-}
-
-// 5, 6 or 7, or 0 where two rows are refused by none of them.
-fn wrong_rows(cdm: &[u8], cds: &[u8]) -> u8
-    ensures { λ r. ⌜ r ≡ wrongRows (now (cdm .entry)) (now (cds .entry)) ⌝ }
-{
-    if COLUMN_LIMIT < cdm.len() {
-        return 5;
-    }
-    if COLUMN_LIMIT < cds.len() {
-        return 5;
-    }
-    if cdm.len() != cds.len() {
-        return 6;
-    }
-    if job::are_bits(cdm) {
-        if job::are_bits(cds) { 0 } else { 7 }
-    } else {
-        7
-    }
 }
 
 // "One column a line"

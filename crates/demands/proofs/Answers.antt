@@ -15,10 +15,11 @@ use Rattle.line.specs.Replay.{replay, Shows}
 use Rattle.line.proofs.Memories.{Bytes}
 use Rattle.line.proofs.Rows.{answers-length}
 use Rattle.line.proofs.Demands as line
-use Rattle.job.specs.Outcome.{areBits}
+use Rattle.job.specs.Rows.{wrongRows}
 use Rattle.job.specs.declared.Outcome.the-variants.{Made}
 use Rattle.job.proofs.Bits.{num-bits}
 use Rattle.job.proofs.Ends.{was-made}
+use Rattle.job.proofs.Rows.{not-wrong}
 use Rattle.run.specs.Run.{memoriesOf, registersOf, refusal, Ran}
 use Rattle.run.proofs.Rows.{row-num}
 use Rattle.run.proofs.Ends.{made-whole, held, short-row, same-rows, master-bits}
@@ -60,11 +61,13 @@ module _ {slaves c : ℕ} {rights registers cdm cds registers′ cds′ : List �
   -- Read refuses neither row by 5 to 8, and six bytes a column are room enough.
   rows-right : (k : ℕ) → k ≤ length cdm → rowsRefusal cdm cds′ k ≡ 0
   rows-right k h =
-      let short = short-row slaves registers rights cdm cds none in
-      let bits : areBits cds′ ≡ true = rw row-bytes (num-bits (answersFrom chain (rowOf cdm))) in
-      sym
-      (rows-good cdm cds′ k short (omega (arith, row-long)) (sym row-long)
-      true (sym (master-bits slaves registers rights cdm cds none)) true (sym bits) refl refl h)
+      let right : wrongRows cdm cds′ ≡ 0 = not-wrong cdm cds′ (record {
+        short = short-row slaves registers rights cdm cds none;
+        same = sym row-long;
+        cdm-bits = master-bits slaves registers rights cdm cds none;
+        cds-bits = rw row-bytes (num-bits (answersFrom chain (rowOf cdm)));
+      }) in
+      sym (rows-good cdm cds′ k (sym right) refl h)
 
   pub rows-read : (k : ℕ) (lent : List ℕ) → k ≤ length cdm → 6 * length cdm ≤ length lent
       → Read.refusal cdm cds′ k (length lent) ≡ 0

@@ -7,14 +7,16 @@ use borrow.Author.Tests.{ltb-false}
 use lib.ListN.{length, take}
 use Rattle.line.specs.Text.{badLine, cdmOf, cdsOf}
 use Rattle.line.proofs.Text.{neither, Back, there-and-back}
+use Rattle.job.specs.Rows.{wrongRows}
 use Rattle.job.specs.declared.Outcome.the-variants.{Made}
 use Rattle.job.proofs.Bits.{all-bits}
 use Rattle.job.proofs.Ends.{not-first, result-first}
+use Rattle.job.proofs.Rows.{Right, right-rows}
 use Rattle.print.proofs.Ends.{was-printed}
-use Rattle.carry.specs.Carry.{wrongRows, rowsRefusal, RowsPrinted, textRefusal, taken, RowsTaken}
+use Rattle.carry.specs.Carry.{rowsRefusal, RowsPrinted, textRefusal, taken, RowsTaken}
 use Rattle.carry.specs.declared.Taken.{Taken}
 use Rattle.carry.specs.declared.Taken.the-variants.{Columns}
-use Rattle.carry.proofs.Ends.{Right, right-rows, room-given, columns-in, was-taken}
+use Rattle.carry.proofs.Ends.{room-given, columns-in, was-taken}
 
 -- Columns that were taken: the text has no bad line, and its rows stand at the start of the lent ones.
 pub record Rows (text : List ℕ) (n : ℕ) (cdm cds : List ℕ) : Type 0 where

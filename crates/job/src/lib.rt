@@ -1,12 +1,54 @@
 // What the four jobs share: how a job ends, and the tests of lent bytes.
 ghost use mathlib.Core.Path.{_≡_};
+ghost use mathlib.Core.Bool.{true};
 ghost use Rattle.job.specs.Outcome.{noneAbove, areBits};
+ghost use Rattle.job.specs.Rows.{rowFault, wrongRows, wrongRow};
+
+// Columns: "A row has 0 to 4,096 columns."
+const COLUMN_LIMIT: usize = 4096;
 
 pub enum Outcome {
     // So many columns, bytes or entries were made.
     Made(usize),
     // A number of paper 01's table; no lent byte was changed.
     Refused(u8),
+}
+
+// 5, 6 or 7 for two rows, or 0 where they are refused by none of them.
+pub fn wrong_rows(cdm: &[u8], cds: &[u8]) -> u8
+    ensures { λ r. ⌜ r ≡ wrongRows (now (cdm .entry)) (now (cds .entry)) ⌝ }
+{
+    let why = wrong_row(cdm, cds.len());
+    if why != 0 {
+        return why;
+    }
+    if are_bits(cds) { 0 } else { 7 }
+}
+
+// The same for a row, and another of so many columns whose bytes are not judged.
+pub fn wrong_row(cdm: &[u8], columns: usize) -> u8
+    ensures { λ r. ⌜ r ≡ wrongRow (now (cdm .entry)) columns ⌝ }
+{
+    let why = wrong_lengths(cdm.len(), columns);
+    if why != 0 {
+        return why;
+    }
+    if are_bits(cdm) { 0 } else { 7 }
+}
+
+// 5 or 6 by the lengths alone.
+fn wrong_lengths(columns: usize, others: usize) -> u8
+    ensures { λ r. ⌜ r ≡ rowFault columns others true ⌝ }
+{
+    if COLUMN_LIMIT < columns {
+        5
+    } else if COLUMN_LIMIT < others {
+        5
+    } else if columns != others {
+        6
+    } else {
+        0
+    }
 }
 
 // Whether every byte of a row is 0 or 1 (01, refusal 7).

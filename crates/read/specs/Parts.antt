@@ -1,24 +1,21 @@
 -- What read's helpers do, for their contracts: nothing here is needed to read what read promises.
 use mathlib.Core.Path.{_≡_}
-use mathlib.Core.Bool.{cond, not, _&&_, _||_}
+use mathlib.Core.Bool.{cond}
 use mathlib.Core.List.{List, [], _∷_, _++_}
 use Prim.Native.Nat.{ℕ, _*_, _/_, _%_, _≤_}
-use lib.Dec.{ltb, eqb}
+use lib.Dec.{ltb}
 use lib.ListN.{length, take, drop}
 use lib.Seq.{sets}
 use Rattle.line.specs.Limits.{columnLimit}
 use Rattle.line.specs.Entries as line
 use Rattle.line.specs.Entries.{listBytes}
-use Rattle.job.specs.Outcome.{areBits}
+use Rattle.line.specs.Text.{orElse}
+use Rattle.job.specs.Rows.{wrongRows}
 use Rattle.reader.specs.declared.Entry.{Entry}
 
 -- Refusals 5 to 8 alone.
 unfoldable pub rowsRefusal : (cdm cds : List ℕ) → (k : ℕ) → ℕ
-rowsRefusal cdm cds k =
-    cond (ltb columnLimit (length cdm) || ltb columnLimit (length cds)) 5
-    (cond (not (eqb (length cdm) (length cds))) 6
-    (cond (not (areBits cdm && areBits cds)) 7
-    (cond (ltb (length cdm) k) 8 0)))
+rowsRefusal cdm cds k = orElse (wrongRows cdm cds) (cond (ltb (length cdm) k) 8 0)
 
 -- What the rows are where none of these is given; the bytes' values do not matter to the scan.
 pub record Rows (cdm cds : List ℕ) (k : ℕ) : Type 0 where

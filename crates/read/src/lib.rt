@@ -13,8 +13,6 @@ use job::Outcome;
 use reader::Entry;
 use reader::Reader;
 
-// Columns: "A row has 0 to 4,096 columns."
-const COLUMN_LIMIT: usize = 4096;
 // Entries: "Six bytes".
 const ENTRY_BYTES: usize = 6;
 
@@ -37,24 +35,11 @@ pub fn read(cdm: &[u8], cds: &[u8], opening: usize, out: &mut [u8]) -> Outcome
 fn rows_refusal(cdm: &[u8], cds: &[u8], opening: usize) -> u8
     ensures { λ r. ⌜ r ≡ rowsRefusal (now (cdm .entry)) (now (cds .entry)) opening ⌝ }
 {
-    if COLUMN_LIMIT < cdm.len() {
-        return 5;
+    let why = job::wrong_rows(cdm, cds);
+    if why != 0 {
+        return why;
     }
-    if COLUMN_LIMIT < cds.len() {
-        return 5;
-    }
-    if cdm.len() != cds.len() {
-        return 6;
-    }
-    if job::are_bits(cdm) {
-        if job::are_bits(cds) {
-            if cdm.len() < opening { 8 } else { 0 }
-        } else {
-            7
-        }
-    } else {
-        7
-    }
+    if cdm.len() < opening { 8 } else { 0 }
 }
 
 // Whether the list fits the lent buffer. No column gives two entries, so with room for as many as columns are left it is not counted.

@@ -1,6 +1,6 @@
 -- How run ends: what lets a chain through, and the two ends. Assumes nothing.
 use mathlib.Core.Path.{_≡_, sym, ap, _∙_}
-use mathlib.Core.Bool.{true, cond, not, _||_}
+use mathlib.Core.Bool.{true, cond, not}
 use mathlib.Core.List.{List, [], append-nil}
 use Prim.Native.Nat.{ℕ, _*_, _≤_}
 use native.Mathlib.Omega.{arith}
@@ -10,8 +10,10 @@ use lib.ListN.{length, drop, drop-of-length-le}
 use Rattle.line.specs.Limits.{columnLimit, slaveLimit, registerCount}
 use Rattle.job.specs.Outcome.{leaves, noneAbove, areBits}
 use Rattle.job.specs.declared.Outcome.the-variants.{Made, Refused}
-use Rattle.job.proofs.Ends.{not-first, then-rest, no-either, refused-answer, refused-leaves, made-answer}
-use Rattle.run.specs.Run.{rowRefusal, refusal, Ran}
+use Rattle.job.specs.Rows.{wrongRow}
+use Rattle.job.proofs.Ends.{not-first, then-rest, refused-answer, refused-leaves, made-answer}
+use Rattle.job.proofs.Rows.{Fair, fair}
+use Rattle.run.specs.Run.{refusal, Ran}
 use Rattle.run.specs.Parts.{Holds, Rowed}
 
 -- A result as long as the lent bytes takes the place of all of them.
@@ -26,18 +28,18 @@ module _ (slaves : ℕ) (registers rights cdm cds : List ℕ) (e : refusal slave
   past-one : cond (not (eqb (length registers) (registerCount * slaves))) 2
       (cond (not (eqb (length rights) (registerCount * slaves))) 3
       (cond (not (noneAbove 3 rights)) 4
-      (rowRefusal cdm (length cds))))
+      (wrongRow cdm (length cds))))
       ≡ 0
   unfolding refusal
   past-one = then-rest (ltb slaveLimit slaves) 0 _ e
 
   past-two : cond (not (eqb (length rights) (registerCount * slaves))) 3
       (cond (not (noneAbove 3 rights)) 4
-      (rowRefusal cdm (length cds)))
+      (wrongRow cdm (length cds)))
       ≡ 0
   past-two = then-rest (not (eqb (length registers) (registerCount * slaves))) 1 _ past-one
 
-  past-four : rowRefusal cdm (length cds) ≡ 0
+  past-four : wrongRow cdm (length cds) ≡ 0
   past-four =
       then-rest (not (noneAbove 3 rights)) 3 _ (then-rest (not (eqb (length rights) (registerCount * slaves))) 2 _ past-two)
 
@@ -50,19 +52,18 @@ module _ (slaves : ℕ) (registers rights cdm cds : List ℕ) (e : refusal slave
         all-rights = eqb-true _ _ (not-false _ (not-first _ 2 _ past-two));
       }
 
-  past-five : _≡_ {A = ℕ} (cond (not (eqb (length cdm) (length cds))) 6 (cond (not (areBits cdm)) 7 0)) 0
-  unfolding rowRefusal
-  past-five = then-rest (ltb columnLimit (length cdm) || ltb columnLimit (length cds)) 4 _ past-four
+  row-fair : Fair (length cdm) (length cds) (areBits cdm)
+  unfolding wrongRow
+  row-fair = fair _ _ _ past-four
 
   pub short-row : length cdm ≤ columnLimit
-  unfolding rowRefusal
-  short-row = ltb-false _ _ (no-either (ltb columnLimit (length cdm)) (ltb columnLimit (length cds)) (not-first _ 4 _ past-four) .0)
+  short-row = row-fair .short
 
   pub same-rows : length cds ≡ length cdm
-  same-rows = sym (eqb-true _ _ (not-false _ (not-first _ 5 _ past-five)))
+  same-rows = sym (row-fair .same)
 
   pub master-bits : areBits cdm ≡ true
-  master-bits = not-false _ (not-first _ 6 0 (then-rest (not (eqb (length cdm) (length cds))) 5 _ past-five))
+  master-bits = row-fair .are-bits
 
 module _ (slaves : ℕ) (rights registers cdm cds : List ℕ) where
   pub ran-refused : (why : ℕ) → why ≡ refusal slaves (length registers) rights cdm (length cds) → (why ≡ 0 → ⊥)

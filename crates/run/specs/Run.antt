@@ -1,15 +1,16 @@
 -- The job run: a chain of slaves over a master row; when it refuses, and what it leaves. The chain itself is line's (specs/Chain).
 use mathlib.Core.Path.{_≡_}
-use mathlib.Core.Bool.{cond, not, _||_}
+use mathlib.Core.Bool.{cond, not}
 use mathlib.Core.List.{List, [], _∷_, _++_, map}
 use Prim.Native.Nat.{ℕ, zero, suc, _*_}
 use lib.Dec.{ltb, eqb}
 use lib.ListN.{length, take, drop}
-use Rattle.line.specs.Limits.{columnLimit, slaveLimit, registerCount}
+use Rattle.line.specs.Limits.{slaveLimit, registerCount}
 use Rattle.line.specs.Bits.{num, rowOf}
 use Rattle.line.specs.Memory.{Memory}
 use Rattle.line.specs.Chain.{answersFrom, memoriesAfter}
-use Rattle.job.specs.Outcome.{outcome, leaves, noneAbove, areBits}
+use Rattle.job.specs.Outcome.{outcome, leaves, noneAbove}
+use Rattle.job.specs.Rows.{wrongRow}
 use Rattle.job.specs.declared.Outcome.{Outcome}
 
 -- "Chain order in the buffers is far slave first": its 128 registers and rights, then those of its neighbour, and so on.
@@ -24,24 +25,15 @@ unfoldable pub registersOf : List Memory → List ℕ
 registersOf [] = []
 registersOf (k ∷ ks) = k .registers ++ registersOf ks
 
--- Refusals 5 to 7: "a row of more than 4,096 columns", be it the master row or the lent answer row; "two rows of different length";
--- "a row byte that is not 0 or 1". "Row bytes overwritten by a job are not judged before it."
-unfoldable pub rowRefusal : (cdm : List ℕ) → (columns : ℕ) → ℕ
-rowRefusal cdm columns =
-    cond (ltb columnLimit (length cdm) || ltb columnLimit columns) 5
-    (cond (not (eqb (length cdm) columns)) 6
-    (cond (not (areBits cdm)) 7
-    0))
-
 -- "Run: 1 to 7." Refusals 1 to 4: "more than 16 slaves"; "registers not 128 x slaves bytes"; "rights not 128 x slaves bytes"; "a right
--- above 3". The registers and the answer row count by their lengths alone.
+-- above 3". The registers and the answer row count by their lengths alone; 5 to 7 are those of any rows (job's specs/Rows).
 unfoldable pub refusal : (slaves registers : ℕ) → (rights cdm : List ℕ) → (columns : ℕ) → ℕ
 refusal slaves registers rights cdm columns =
     cond (ltb slaveLimit slaves) 1
     (cond (not (eqb registers (registerCount * slaves))) 2
     (cond (not (eqb (length rights) (registerCount * slaves))) 3
     (cond (not (noneAbove 3 rights)) 4
-    (rowRefusal cdm columns))))
+    (wrongRow cdm columns))))
 
 -- What run answers, and what it leaves in the lent registers and in the lent answer row.
 pub record Ran (slaves : ℕ) (rights registers cdm cds : List ℕ) (answer : Outcome) (registers′ cds′ : List ℕ) : Type 0 where

@@ -3,7 +3,7 @@
 ghost use mathlib.Core.Path.{_≡_};
 ghost use lib.ListN.{length, replicate};
 ghost use Rattle.line.specs.Limits.{registerCount};
-ghost use Rattle.run.specs.Run.{rowRefusal, refusal, Ran};
+ghost use Rattle.run.specs.Run.{refusal, Ran};
 ghost use Rattle.run.specs.Parts.{Holds, Passed, Rowed};
 use job::Outcome;
 use slave::Seen;
@@ -14,9 +14,6 @@ const SLAVES: usize = 16;
 
 // "A slave has 128 registers and one right for each".
 const REGISTERS: usize = 128;
-
-// Columns: "A row has 0 to 4,096 columns."
-const COLUMNS: usize = 4096;
 
 // "0 none, 1 read, 2 write, 3 both".
 const RIGHTS: u8 = 3;
@@ -51,25 +48,9 @@ fn refusal(slaves: usize, registers: usize, rights: &[u8], cdm: &[u8], columns: 
     } else if rights.len() != REGISTERS * slaves {
         3
     } else if job::none_above(rights, RIGHTS) {
-        row_refusal(cdm, columns)
+        job::wrong_row(cdm, columns)
     } else {
         4
-    }
-}
-
-fn row_refusal(cdm: &[u8], columns: usize) -> u8
-    ensures { λ r. ⌜ r ≡ rowRefusal (now (cdm .entry)) columns ⌝ }
-{
-    if COLUMNS < cdm.len() {
-        5
-    } else if COLUMNS < columns {
-        5
-    } else if cdm.len() != columns {
-        6
-    } else if job::are_bits(cdm) {
-        0
-    } else {
-        7
     }
 }
 

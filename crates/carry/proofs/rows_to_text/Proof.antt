@@ -3,7 +3,8 @@ use mathlib.Core.Path.{sym, _∙_}
 use borrow.Author.Needs.{needs}
 use Rattle.carry.proofs.Columns.{text-length}
 use Rattle.print.proofs.Ends.{printed-refused, printed-made}
-use Rattle.carry.proofs.Ends.{right-rows, rows-wrong, rows-nine, rows-none}
+use Rattle.job.proofs.Rows.{right-rows}
+use Rattle.carry.proofs.Ends.{rows-wrong, rows-nine, rows-none}
 use Rattle.line.specs.Text.{rowsText}
 use Rattle.print.proofs.Runs.{then, laid-length}
 use Rattle.carry.proofs.rows_to_text.Statement.{statement}

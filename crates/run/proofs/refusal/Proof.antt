@@ -14,8 +14,8 @@ mul-if3 c = search needs
 none-above-requires : tie.Need-none-above-requires
 none-above-requires c κs = search needs
 
-row-refusal-requires : tie.Need-row-refusal-requires
-row-refusal-requires c κs = search needs
+wrong-row-requires : tie.Need-wrong-row-requires
+wrong-row-requires c κs = search needs
 
 returns : tie.Need-returns
 unfolding refusal
@@ -31,7 +31,7 @@ returns-3 c = search cases
 
 returns-4 : tie.Need-returns-4
 unfolding refusal
-returns-4 c = rw (← c .before .before .none-above .ensures, c .before .if4 .taken, c .row-refusal .ensures) (search cases)
+returns-4 c = rw (← c .before .before .none-above .ensures, c .before .if4 .taken, c .wrong-row .ensures) (search cases)
 
 returns-5 : tie.Need-returns-5
 unfolding refusal
@@ -44,7 +44,7 @@ refusal-spec =
     mul-if2
     mul-if3
     none-above-requires
-    row-refusal-requires
+    wrong-row-requires
     returns
     returns-2
     returns-3

@@ -1,0 +1,94 @@
+-- Refusals 5 to 7: the lengths decide before the bytes, and what rows are where none of the three is given. Assumes nothing.
+use mathlib.Core.Path.{_≡_, refl, sym, _∙_}
+use mathlib.Core.Bool.{Bool, true, false, cond, not, _&&_, _||_}
+use mathlib.Core.List.{List}
+use Prim.Native.Nat.{ℕ, zero, suc, _≤_}
+use native.Mathlib.Omega.{arith}
+use borrow.Author.Tests.{le-ltb, ltb-false, eq-eqb, eqb-true, not-false}
+use lib.Dec.{ltb, eqb}
+use lib.ListN.{length}
+use Rattle.line.specs.Limits.{columnLimit}
+use Rattle.line.specs.Text.{orElse}
+use Rattle.line.proofs.Text.{both}
+use Rattle.job.specs.Outcome.{areBits}
+use Rattle.job.specs.Rows.{rowFault, wrongRows}
+use Rattle.job.proofs.Ends.{not-first, then-rest, no-either}
+
+-- The first number that is given counts.
+pub first-counts : (n rest : ℕ) → (n ≡ 0 → ⊥) → n ≡ orElse n rest
+first-counts zero rest h = absurd (h refl)
+first-counts (suc n) rest h = refl
+
+-- The three by their conditions.
+abbrev cascade : (long unequal bits : Bool) → ℕ
+cascade long unequal bits = cond long 5 (cond unequal 6 (cond (not bits) 7 0))
+
+stays : (a b bits more : Bool) → (cascade a b bits ≡ 0 → ⊥) → cascade a b bits ≡ cascade a b (bits && more)
+stays true b bits more h = refl
+stays false true bits more h = refl
+stays false false true more h = absurd (h refl)
+stays false false false more h = refl
+
+decides : (a b bits more : Bool) → cascade a b bits ≡ 0 → cascade a b (bits && more) ≡ cond more 0 7
+decides true b bits more e = absurd (omega arith)
+decides false true bits more e = absurd (omega arith)
+decides false false false more e = absurd (omega arith)
+decides false false true true e = refl
+decides false false true false e = refl
+
+module _ (columns others : ℕ) (bits : Bool) where
+  -- A number that is given stays, whatever bytes are judged beside; where none is, those bytes decide.
+  module _ (more : Bool) {why : ℕ} (e : why ≡ rowFault columns others bits) where
+    pub fault-stays : (why ≡ 0 → ⊥) → why ≡ rowFault columns others (bits && more)
+    unfolding rowFault
+    fault-stays h = e ∙ stays (ltb columnLimit columns || ltb columnLimit others) (not (eqb columns others)) bits more (λ z. h (e ∙ z))
+
+    pub bytes-decide : why ≡ 0 → {told : Bool} → told ≡ more → {number : ℕ} → number ≡ cond told 0 7 → number ≡ rowFault columns others (bits && more)
+    unfolding rowFault
+    bytes-decide z is answer =
+        answer ∙ rw is
+        (sym (decides (ltb columnLimit columns || ltb columnLimit others) (not (eqb columns others)) bits more (sym e ∙ z)))
+
+  -- Lengths and bits that are no fault.
+  pub record Fair : Type 0 where
+    pub short : columns ≤ columnLimit
+    pub same : columns ≡ others
+    pub are-bits : bits ≡ true
+
+  pub fair : rowFault columns others bits ≡ 0 → Fair
+  unfolding rowFault
+  fair e =
+      let long = ltb columnLimit columns || ltb columnLimit others in
+      let unequal = not (eqb columns others) in
+      let six = then-rest long 4 (cond unequal 6 (cond (not bits) 7 0)) e in
+      let seven = then-rest unequal 5 (cond (not bits) 7 0) six in
+      record {
+        short = ltb-false _ _ (no-either _ _ (not-first long 4 (cond unequal 6 (cond (not bits) 7 0)) e) .0);
+        same = eqb-true _ _ (not-false _ (not-first unequal 5 (cond (not bits) 7 0) six));
+        are-bits = not-false bits (not-first (not bits) 6 0 seven);
+      }
+
+  pub no-fault : columns ≤ columnLimit → columns ≡ others → bits ≡ true → rowFault columns others bits ≡ 0
+  unfolding rowFault
+  no-fault h e b =
+      let short : others ≤ columnLimit = omega arith in
+      rw (le-ltb columnLimit columns h, le-ltb columnLimit others short, eq-eqb columns others e, b)
+
+-- Two rows that are refused by none of the three.
+pub record Right (cdm cds : List ℕ) : Type 0 where
+  pub short : length cdm ≤ columnLimit
+  pub same : length cdm ≡ length cds
+  pub cdm-bits : areBits cdm ≡ true
+  pub cds-bits : areBits cds ≡ true
+
+module _ (cdm cds : List ℕ) where
+  pub right-rows : wrongRows cdm cds ≡ 0 → Right cdm cds
+  unfolding wrongRows
+  right-rows e =
+      let rows = fair (length cdm) (length cds) (areBits cdm && areBits cds) e in
+      let bits = both (areBits cdm) (areBits cds) (rows .are-bits) in
+      record { short = rows .short; same = rows .same; cdm-bits = bits .0; cds-bits = bits .1 }
+
+  pub not-wrong : Right cdm cds → wrongRows cdm cds ≡ 0
+  unfolding wrongRows
+  not-wrong rows = no-fault _ _ _ (rows .short) (rows .same) (rw (rows .cdm-bits, rows .cds-bits))
