@@ -1,3 +1,4 @@
--- How words are collected, and that each promise of this crate has one answer.
+-- A division four bits at a time, how words are collected, and that each promise of this crate has one answer.
+mod Fours
 mod Words
 mod Unique

@@ -1,12 +1,15 @@
-// The check bits of the control line: of a header's eleven bits, from a table, and of a data byte's eight; words as they are
-// collected, bit by bit, and whether their check is right.
+// The check bits of the control line: of a header's eleven bits, from a table, and of a data byte's eight, four bits at a time; words as
+// they are collected, bit by bit, and whether their check is right.
 mod table;
 
 ghost use mathlib.Core.Path.{_≡_};
 ghost use Prim.Native.Nat.{_<_};
-ghost use Rattle.line.specs.Division.{headerBits, dataBits, check, fits};
+ghost use Rattle.line.specs.Division.{headerBits, dataBits, checkWidth, remainder, check, fits};
 ghost use Rattle.line.specs.Bits.{push};
 use table::CHECKS;
+
+// The remainders of the sixteen words of four bits, four bits each, that of 0 lowest.
+const REMAINDERS: u64 = 2398146510454543920;
 
 // The four check bits that follow the lowest eleven bits of `word`: CTS and the ten bits behind it.
 pub fn header_check(word: u16) -> u8
@@ -15,11 +18,20 @@ pub fn header_check(word: u16) -> u8
     at((word % 2048) as usize)
 }
 
-// The four check bits that follow a data byte. Leading zeros change no remainder, so the header's table has them too.
+// The four check bits that follow a data byte: what remains of its high four bits goes into its low four.
 pub fn byte_check(value: u8) -> u8
     ensures { λ r. ⌜ r ≡ check dataBits value ⌝ }
 {
-    at(value as usize)
+    let high = four(value / 16);
+    15 - four(high ^ value % 16)
+}
+
+// What remains of the lowest four bits of a number.
+fn four(bits: u8) -> u8
+    ensures { λ r. ⌜ (r ≡ remainder checkWidth bits) × (r < 16) ⌝ }
+{
+    let place = 4 * (bits % 16) as u64;
+    ((REMAINDERS >> place) % 16) as u8
 }
 
 // Whether the last four bits of a header's fifteen are the check bits of the eleven before them.
