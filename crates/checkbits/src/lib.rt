@@ -9,7 +9,7 @@ ghost use Rattle.line.specs.Bits.{push};
 use table::CHECKS;
 
 // The remainders of the sixteen words of four bits, four bits each, that of 0 lowest.
-const REMAINDERS: u64 = 2398146510454543920;
+const REMAINDERS: u64 = 0x2147_ed8b_9afc_5630;
 
 // The four check bits that follow the lowest eleven bits of `word`: CTS and the ten bits behind it.
 pub fn header_check(word: u16) -> u8

@@ -4,7 +4,7 @@ use mathlib.Core.Logic.{_↔_}
 use mathlib.Core.Path.{_≡_, refl, sym, ap, _∙_}
 use mathlib.Core.Bool.{Bool, true, false, false≢true, Bool·beq}
 use Prim.Native.Nat.{ℕ, zero, suc, _+_, _-_, _*_, _/_, _%_, _^_, _<_}
-use native.Mathlib.Nat.{add-comm, suc-add, zero-add, zero-mul, mod-eq-of-lt, mod-mod, zero-div}
+use native.Mathlib.Nat.{add-comm, suc-add, zero-add, mod-eq-of-lt, mod-mod}
 use native.Mathlib.Numerals.{one-add}
 use native.Mathlib.Omega.{arith}
 use borrow.Author.Tests.{eq-eqb, eqb-true, ltb-true}
@@ -64,26 +64,6 @@ pub no-other : (n v c : ℕ) → c < 2 ^ checkWidth → fits n (v * 2 ^ checkWid
 unfolding fits
 no-other n v c h e =
     sym (low v checkWidth h) ∙ eqb-true _ _ e ∙ ap (check n) (high v checkWidth h)
-
--- Leading zeros leave the remainder 0 ..
-bit-zero : (n : ℕ) → bit n 0 ≡ false
-unfolding bit
-bit-zero n = rw (zero-div (2 ^ n))
-
-remainder-zero : (n : ℕ) → remainder n 0 ≡ 0
-unfolding remainder divide feed
-remainder-zero zero = refl
-remainder-zero (suc n) =
-    ap (λ (b : Bool). divide checkWidth polynomial n 0 (feed checkWidth polynomial 0 b)) (bit-zero n) ∙ remainder-zero n
-
--- .. so they change no check.
-pub check-leading : (k n v : ℕ) → v < 2 ^ n → check (k + n) v ≡ check n v
-unfolding check remainder
-check-leading k n v h =
-    ap (λ (r : ℕ). 2 ^ checkWidth - 1 - r)
-    (ap (λ (u : ℕ). remainder (k + n) u) (sym (rw zero-mul (zero-add v)))
-    ∙ divide-append checkWidth polynomial k n 0 0 h
-    ∙ ap (λ (r : ℕ). divide checkWidth polynomial n v r) (remainder-zero k))
 
 -- The check of n bits looks at the lowest n alone.
 pub check-low : (n v : ℕ) → check n (v % 2 ^ n) ≡ check n v
