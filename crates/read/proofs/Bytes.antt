@@ -96,28 +96,22 @@ good-headed c (access id address) lock h = (h, tt)
 good-headed c (command ids cmd) lock h = (tt, entry-bytes Kind.command c cmd 0 ids (h .1) (omega arith) (h .0))
 
 -- The answers at W.
+num-low : (w : Bool) → num w < 2
+num-low true = omega arith
+num-low false = omega arith
+
 module _ (c id address : ℕ) (i : Byte id) (a : Byte address) where
   good-entry : (k : Kind) (value : ℕ) → Byte value → Bytes (entry k c id address value)
   good-entry k value v = entry-bytes k c id address value i a v
 
-  odd-byte : (r w : Bool) → Byte (2 * num r + num w)
-  odd-byte true true = omega arith
-  odd-byte true false = omega arith
-  odd-byte false true = omega arith
-  odd-byte false false = omega arith
-
-  one-byte : (w : Bool) → Byte (num w)
-  one-byte true = omega arith
-  one-byte false = omega arith
-
   good-asked : (lock : ℕ) (r answeredR w answeredW : Bool) → Good (asked c id address lock r answeredR w answeredW)
   unfolding asked
   good-asked lock r answeredR w answeredW =
-      let other : Good (oddAnswer c id address answeredR answeredW) = (tt, good-entry Kind.odd _ (odd-byte answeredR answeredW)) in
+      let other : Good (oddAnswer c id address answeredR answeredW) = (tt, good-entry Kind.odd _ (omega (arith, num-low answeredR, num-low answeredW))) in
       either Good (Bool·beq r w) (tt, good-entry Kind.pair 0 (omega arith))
       (either Good (ltb id lock)
       (either Good (Bool·beq answeredR r)
-      (either Good (Bool·beq answeredW w) ((i, a), tt) (tt, good-entry Kind.refused _ (one-byte w))) other)
+      (either Good (Bool·beq answeredW w) ((i, a), tt) (tt, good-entry Kind.refused _ (omega (arith, num-low w)))) other)
       (either Good (answeredR || answeredW) other (tt, good-entry Kind.absent 0 (omega arith))))
 
 byte-of : (w : ℕ) → Byte (byteOf w)
