@@ -130,11 +130,15 @@ module _ (cdm cds : List ℕ) (k : ℕ) where
   unfolding rowsAnswer
   answers-late h = rw (lt-ltb (length cdm) k h)
 
+  pub answers-shown : k ≤ length cdm → rowsAnswer cdm cds k ≡ listText (listBytes (listOf k cdm cds))
+  unfolding rowsAnswer
+  answers-shown h = rw (le-ltb (length cdm) k h)
+
   pub answers-list : k ≤ length cdm → {list : List ℕ} → list ≡ listBytes (listOf k cdm cds) → {lent after : List ℕ} {answer : Outcome}
       → ListPrinted list lent answer after → Whole (rowsAnswer cdm cds k) lent answer after
-  unfolding rowsAnswer listRefusal
+  unfolding listRefusal
   answers-list h {list} e {lent} {after} {answer} printed =
-      rw (le-ltb (length cdm) k h, ← e) (rw (ap isList e ∙ bytes-list (listOf k cdm cds)) at printed)
+      rw (answers-shown h, ← e) (rw (ap isList e ∙ bytes-list (listOf k cdm cds)) at printed)
 
 module _ (text : List ℕ) (k : ℕ) where
   pub answers-bad : 0 < badLine text → answerText text k ≡ refusedText (11 ∷ badLine text ∷ [])

@@ -1,10 +1,11 @@
 -- Each promise of this crate has one answer: two results that meet it are equal. Assumes nothing.
 use mathlib.Core.Path.{_≡_}
-use mathlib.Core.List.{List}
+use mathlib.Core.Bool.{Bool}
+use mathlib.Core.List.{List, map}
 use Prim.Native.Nat.{ℕ, _^_, min}
 use lib.ListN.{drop}
 use denote.Ref.{RefT}
-use Rattle.line.specs.Text.{firstBad, badLine}
+use Rattle.line.specs.Text.{Form, begins, firstBad, badLine}
 use Rattle.line.proofs.Unique.{one-answer}
 use Rattle.cursor.specs.declared.Cursor.{Cursor}
 
@@ -21,3 +22,6 @@ bad-line-unique text a b p q = one-answer p q
 bad-in-piece-unique : (piece : List ℕ) (before a b : ℕ)
     → a ≡ firstBad (min before (2 ^ 63)) piece → b ≡ firstBad (min before (2 ^ 63)) piece → a ≡ b
 bad-in-piece-unique piece before a b p q = one-answer p q
+
+begins-with-unique : (text line : List ℕ) (a b : Bool) → a ≡ begins (map Form.exactly line) text → b ≡ begins (map Form.exactly line) text → a ≡ b
+begins-with-unique text line a b p q = one-answer p q

@@ -37,7 +37,7 @@ column-here zero (m ∷ ms) (x ∷ xs) h g = refl
 column-here (suc k) (m ∷ ms) (x ∷ xs) h g = column-here k ms xs (le-of-suc-le-suc h) (le-of-suc-le-suc g)
 
 -- .. and past the last there is none.
-length-columns : (ms xs : List ℕ) → length (columns (rowOf ms) (rowOf xs)) ≤ length ms
+pub length-columns : (ms xs : List ℕ) → length (columns (rowOf ms) (rowOf xs)) ≤ length ms
 unfolding columns rowOf
 length-columns [] xs = omega arith
 length-columns (m ∷ ms) [] = omega arith

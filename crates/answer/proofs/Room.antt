@@ -1,0 +1,122 @@
+-- Every answer fits into the room that the indexing program has for it, so there none is refused by 9. Assumes nothing.
+use mathlib.Core.Path.{_≡_, _∙_}
+use mathlib.Core.List.{List, [], _∷_}
+use Prim.Native.Nat.{ℕ, zero, suc, _+_, _*_, _^_, _≤_, _<_}
+use native.Mathlib.Omega.{arith}
+use borrow.Author.Tests.{le-ltb, ltb-true, ltb-false}
+use lib.Dec.{ltb}
+use lib.ListN.{length, length-append, length-drop, drop}
+use Rattle.line.specs.Limits.{columnLimit}
+use Rattle.line.specs.Entries.{Entry, bytesOf, listBytes}
+use Rattle.line.specs.Text.{Form, columnForm, headerForm, begins, fault, orElse, firstBad, badLine, cdmOf, cdsOf, entryLines}
+use Rattle.line.proofs.Every.{Every, either, tested}
+use Rattle.line.proofs.Codec.{read-back}
+use Rattle.job.specs.Outcome.{outcome}
+use Rattle.job.specs.declared.Outcome.{Outcome}
+use Rattle.job.specs.declared.Outcome.the-variants.{Made}
+use Rattle.read.specs.Read.{listOf}
+use Rattle.read.proofs.Left.{length-list}
+use Rattle.read.proofs.Bytes.{Small, small-list}
+use Rattle.entries.proofs.Short.{line-short}
+use Rattle.entries.proofs.Lists.{text-length}
+use Rattle.answer.specs.Answer.{fieldsToEnd, refusedText, rowsAnswer, answerText, longAnswer, Whole, Answered}
+use Rattle.answer.proofs.Lines.{twenty}
+use Rattle.answer.proofs.Rows.{answers-late, answers-shown, answers-bad, answers-long, answers-rows}
+
+-- Intake's buffer for an answer.
+abbrev pub answerRoom : ℕ
+answerRoom = 131072
+
+-- The lines of entries that six bytes hold.
+lines-short : (limit : ℕ) (es : List Entry) → limit ≤ columnLimit → Every (Small limit) es
+    → length (entryLines (listBytes es)) ≤ 27 * length es
+unfolding entryLines listBytes bytesOf
+lines-short limit [] l h = omega arith
+lines-short limit (e ∷ es) l h =
+    let small = h .0 in
+    rw (read-back e, length-append)
+    (omega (
+      arith,
+      line-short e (omega arith) (omega arith) (omega arith) (omega arith),
+      lines-short limit es l (h .1),
+    ))
+
+-- The line of a refusal: a number of one digit, or 11 and a line of at most twenty.
+number-fits : (why : ℕ) → why < 10 → length (refusedText (why ∷ [])) ≤ answerRoom
+unfolding refusedText fieldsToEnd
+number-fits why h = simp length-append (omega (arith, twenty why (omega arith)))
+
+line-fits : (line : ℕ) → line < 2 ^ 64 → length (refusedText (11 ∷ line ∷ [])) ≤ answerRoom
+unfolding refusedText fieldsToEnd
+line-fits line h = simp length-append (omega (arith, twenty 11 (omega arith), twenty line h))
+
+-- No bad line has a greater number than the text has bytes, and one.
+fault-low : (form : List Form) (before : ℕ) (text : List ℕ) → fault form before text ≤ suc before
+unfolding fault
+fault-low form before text = either (λ n. n ≤ suc before) (begins form text) (omega arith) (omega arith)
+
+or-low : (fault rest limit : ℕ) → fault ≤ limit → rest ≤ limit → orElse fault rest ≤ limit
+or-low zero rest limit f r = r
+or-low (suc n) rest limit f r = f
+
+bad-low : (before : ℕ) (text : List ℕ) → firstBad before text ≤ before + length text
+unfolding firstBad
+bad-low before [] = omega arith
+bad-low before (a ∷ []) = omega (arith, fault-low columnForm before (a ∷ []))
+bad-low before (a ∷ b ∷ []) = omega (arith, fault-low columnForm before (a ∷ b ∷ []))
+bad-low before (a ∷ b ∷ c ∷ []) = omega (arith, fault-low columnForm before (a ∷ b ∷ c ∷ []))
+bad-low before (a ∷ b ∷ c ∷ d ∷ text) =
+    or-low (fault columnForm before (a ∷ b ∷ c ∷ d ∷ [])) (firstBad (before + 1) text) (before + length (a ∷ b ∷ c ∷ d ∷ text))
+    (omega (arith, fault-low columnForm before (a ∷ b ∷ c ∷ d ∷ [])))
+    (omega (arith, bad-low (before + 1) text))
+
+line-low : (text : List ℕ) → badLine text ≤ 1 + length text
+unfolding badLine
+line-low text =
+    or-low (fault headerForm 0 text) (firstBad 1 (drop 8 text)) (1 + length text) (omega (arith, fault-low headerForm 0 text))
+    (omega (arith, bad-low 1 (drop 8 text), length-drop 8 text))
+
+rows-fit : (cdm cds : List ℕ) (k : ℕ) → length cdm ≤ columnLimit → length (rowsAnswer cdm cds k) ≤ answerRoom
+rows-fit cdm cds k h =
+    tested (ltb (length cdm) k) (λ q. rw (answers-late cdm cds k (ltb-true (length cdm) k q)) (number-fits 8 (omega arith)))
+    (λ q.
+    let within : k ≤ length cdm = ltb-false (length cdm) k q in
+    rw (answers-shown cdm cds k within)
+    (omega (
+      arith,
+      text-length (listBytes (listOf k cdm cds)),
+      lines-short (length cdm) (listOf k cdm cds) h (small-list k cdm cds within),
+      length-list k cdm cds,
+    )))
+
+-- The list, or a refusal; a text in memory has fewer than 2 ^ 63 bytes.
+pub answer-fits : (text : List ℕ) (k : ℕ) → length text < 2 ^ 63 → length (answerText text k) ≤ answerRoom
+answer-fits text k h =
+    tested (ltb 0 (badLine text))
+    (λ q. rw (answers-bad text k (ltb-true 0 (badLine text) q)) (line-fits (badLine text) (omega (arith, line-low text))))
+    (λ q.
+    let good : badLine text ≡ 0 = omega (arith, ltb-false 0 (badLine text) q) in
+    tested (ltb columnLimit (length (cdmOf text)))
+    (λ r. rw (answers-long text k good (ltb-true columnLimit (length (cdmOf text)) r)) (number-fits 5 (omega arith)))
+    (λ r.
+    let short : length (cdmOf text) ≤ columnLimit = ltb-false columnLimit (length (cdmOf text)) r in
+    rw (answers-rows text k good short) (rows-fit (cdmOf text) (cdsOf text) k short)))
+
+-- The same of a text with more columns than a row may have, by its first bad line.
+long-fits : (bad : ℕ) → bad < 2 ^ 64 → length (longAnswer bad) ≤ answerRoom
+unfolding longAnswer
+long-fits bad h = either (λ (l : List ℕ). length l ≤ answerRoom) (ltb 0 bad) (line-fits bad h) (number-fits 5 (omega arith))
+
+-- What fits is made.
+module _ (lent : List ℕ) (room : answerRoom ≤ length lent) {answer : Outcome} {after : List ℕ} where
+  fits-made : (text : List ℕ) → length text ≤ answerRoom → Whole text lent answer after → answer ≡ Made (length text)
+  unfolding outcome
+  fits-made text h printed =
+      let fits : length text ≤ length lent = omega arith in printed .answers ∙ rw (le-ltb (length lent) (length text) fits)
+
+  pub answer-made : (text : List ℕ) (k : ℕ) → length text < 2 ^ 63 → Answered text k lent answer after
+      → answer ≡ Made (length (answerText text k))
+  answer-made text k h = fits-made (answerText text k) (answer-fits text k h)
+
+  pub long-made : (bad : ℕ) → bad < 2 ^ 64 → Whole (longAnswer bad) lent answer after → answer ≡ Made (length (longAnswer bad))
+  long-made bad h = fits-made (longAnswer bad) (long-fits bad h)
