@@ -12,10 +12,10 @@ use Rattle.line.specs.Entries.{listBytes}
 use Rattle.line.specs.Text.{rowsText, badLine, cdmOf, cdsOf, listText}
 use Rattle.line.proofs.Every.{tested}
 use Rattle.line.proofs.Text.{Back, there-and-back}
+use Rattle.job.specs.Rows.{wrongRows}
 use Rattle.job.proofs.Bits.{all-bits}
+use Rattle.job.proofs.Rows.{Right, right-rows}
 use Rattle.read.specs.Read.{listOf}
-use Rattle.carry.specs.Carry.{wrongRows}
-use Rattle.carry.proofs.Ends.{Right, right-rows}
 use Rattle.answer.specs.Answer.{answerText}
 use Rattle.answer.proofs.Rows.{answers-late, answers-shown, answers-rows}
 
