@@ -23,31 +23,18 @@ first-counts (suc n) rest h = refl
 abbrev cascade : (long unequal bits : Bool) → ℕ
 cascade long unequal bits = cond long 5 (cond unequal 6 (cond (not bits) 7 0))
 
-stays : (a b bits more : Bool) → (cascade a b bits ≡ 0 → ⊥) → cascade a b bits ≡ cascade a b (bits && more)
-stays true b bits more h = refl
-stays false true bits more h = refl
-stays false false true more h = absurd (h refl)
-stays false false false more h = refl
-
-decides : (a b bits more : Bool) → cascade a b bits ≡ 0 → cascade a b (bits && more) ≡ cond more 0 7
-decides true b bits more e = absurd (omega arith)
-decides false true bits more e = absurd (omega arith)
-decides false false false more e = absurd (omega arith)
-decides false false true true e = refl
-decides false false true false e = refl
+judges : (a b bits more : Bool) → orElse (cascade a b bits) (cond more 0 7) ≡ cascade a b (bits && more)
+judges true b bits more = refl
+judges false true bits more = refl
+judges false false false more = refl
+judges false false true true = refl
+judges false false true false = refl
 
 module _ (columns others : ℕ) (bits : Bool) where
-  -- A number that is given stays, whatever bytes are judged beside; where none is, those bytes decide.
-  module _ (more : Bool) {why : ℕ} (e : why ≡ rowFault columns others bits) where
-    pub fault-stays : (why ≡ 0 → ⊥) → why ≡ rowFault columns others (bits && more)
-    unfolding rowFault
-    fault-stays h = e ∙ stays (ltb columnLimit columns || ltb columnLimit others) (not (eqb columns others)) bits more (λ z. h (e ∙ z))
-
-    pub bytes-decide : why ≡ 0 → {told : Bool} → told ≡ more → {number : ℕ} → number ≡ cond told 0 7 → number ≡ rowFault columns others (bits && more)
-    unfolding rowFault
-    bytes-decide z is answer =
-        answer ∙ rw is
-        (sym (decides (ltb columnLimit columns || ltb columnLimit others) (not (eqb columns others)) bits more (sym e ∙ z)))
+  -- Bytes that are judged beside others: a number that is given stays, else they decide.
+  pub judged-too : (more : Bool) → orElse (rowFault columns others bits) (cond more 0 7) ≡ rowFault columns others (bits && more)
+  unfolding rowFault
+  judged-too more = judges (ltb columnLimit columns || ltb columnLimit others) (not (eqb columns others)) bits more
 
   -- Lengths and bits that are no fault.
   pub record Fair : Type 0 where

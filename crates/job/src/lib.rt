@@ -1,6 +1,7 @@
 // What the four jobs share: how a job ends, and the tests of lent bytes.
 ghost use mathlib.Core.Path.{_≡_};
-ghost use mathlib.Core.Bool.{true};
+ghost use mathlib.Core.Bool.{true, cond};
+ghost use Rattle.line.specs.Text.{orElse};
 ghost use Rattle.job.specs.Outcome.{noneAbove, areBits};
 ghost use Rattle.job.specs.Rows.{rowFault, wrongRows, wrongRow};
 
@@ -18,22 +19,24 @@ pub enum Outcome {
 pub fn wrong_rows(cdm: &[u8], cds: &[u8]) -> u8
     ensures { λ r. ⌜ r ≡ wrongRows (now (cdm .entry)) (now (cds .entry)) ⌝ }
 {
-    let why = wrong_row(cdm, cds.len());
-    if why != 0 {
-        return why;
-    }
-    if are_bits(cds) { 0 } else { 7 }
+    judged(wrong_row(cdm, cds.len()), cds)
 }
 
 // The same for a row, and another of so many columns whose bytes are not judged.
 pub fn wrong_row(cdm: &[u8], columns: usize) -> u8
     ensures { λ r. ⌜ r ≡ wrongRow (now (cdm .entry)) columns ⌝ }
 {
-    let why = wrong_lengths(cdm.len(), columns);
+    judged(wrong_lengths(cdm.len(), columns), cdm)
+}
+
+// What is given already, or else 7 by a row's bytes.
+fn judged(why: u8, row: &[u8]) -> u8
+    ensures { λ r. ⌜ r ≡ orElse why (cond (areBits (now (row .entry))) 0 7) ⌝ }
+{
     if why != 0 {
         return why;
     }
-    if are_bits(cdm) { 0 } else { 7 }
+    if are_bits(row) { 0 } else { 7 }
 }
 
 // 5 or 6 by the lengths alone.
