@@ -44,7 +44,7 @@ pub fn long_answer(bad: usize, out: &mut [u8]) -> Outcome
     }
 }
 
-// .. of the text's rows.
+// The list of two rows as text, or the line of refusal 8.
 fn rows_answer(cdm: &[u8], cds: &[u8], opening: usize, out: &mut [u8]) -> Outcome
     requires { ⌜ wrongRows (now cdm) (now cds) ≡ 0 ⌝ }
     ensures { λ r. ⌜ Whole (rowsAnswer (now (cdm .entry)) (now (cds .entry)) opening) (now (out .entry)) r (now (out .exit)) ⌝ }
@@ -58,14 +58,14 @@ fn rows_answer(cdm: &[u8], cds: &[u8], opening: usize, out: &mut [u8]) -> Outcom
 }
 
 // The line of a refusal without a line number.
-pub fn refused(number: u8, out: &mut [u8]) -> Outcome
+fn refused(number: u8, out: &mut [u8]) -> Outcome
     ensures { λ r. ⌜ Whole (refusedText (number ∷ [])) (now (out .entry)) r (now (out .exit)) ⌝ }
 {
     told(b"refused", number as u64, out)
 }
 
 // Refusal 11, with the first bad line.
-pub fn bad_line(line: usize, out: &mut [u8]) -> Outcome
+fn bad_line(line: usize, out: &mut [u8]) -> Outcome
     ensures { λ r. ⌜ Whole (refusedText (11 ∷ line ∷ [])) (now (out .entry)) r (now (out .exit)) ⌝ }
 {
     told(b"refused\t11", line as u64, out)
