@@ -1,7 +1,7 @@
 -- What the code's slave stands for in line's definitions, for the contracts: nothing here is needed to read what run promises.
 -- Every value of the types stands for something, so that no contract asks for a good state.
 use mathlib.Core.Path.{_≡_}
-use mathlib.Core.Bool.{Bool, true, false, cond, _&&_}
+use mathlib.Core.Bool.{Bool, true, false, cond, not, _&&_}
 use mathlib.Core.Option.{Option, none, some}
 use Prim.Native.Nat.{ℕ, _+_, _-_, _/_, _%_, _^_, min}
 use lib.Dec.{ltb}
@@ -87,6 +87,12 @@ stateOf s = stateBy (s .kind) (s .zeros) (s .body)
 -- .. and the address that it is at.
 abbrev pub placeOf : Slave → ℕ
 placeOf s = placeBy (s .body)
+
+-- Rest: "they stay there while zeros last": such a column changes nothing of a slave, and it passes on the bit that it sees.
+unfoldable pub idles : Timed line.Phase → (m : Bool) → Bool
+idles (power z) m = false
+idles rest m = not m
+idles (frame z p) m = false
 
 -- A turn of its parts.
 abbrev pub turned : Kind → (zeros : ℕ) → Body → (sent : Bool) → (byte : ℕ) → Turn

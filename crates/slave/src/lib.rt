@@ -8,7 +8,7 @@ ghost use Rattle.line.specs.Limits.{restZeros, registerCount};
 ghost use Rattle.line.specs.Bits.{num, bit};
 ghost use Rattle.line.specs.Rest.{powerOn, timer};
 ghost use Rattle.line.specs.Division.{dataBits, word};
-ghost use Rattle.slave.specs.Code.{stateOf, placeOf, turned, nextColumn, nextAddress, lockOf, Meets, Steps, lockedAs, CalledAs, goesOn};
+ghost use Rattle.slave.specs.Code.{stateOf, placeOf, idles, turned, nextColumn, nextAddress, lockOf, Meets, Steps, lockedAs, CalledAs, goesOn};
 
 // Rest: "Fourteen CDM zeros in a row end anything, at any place."
 const REST: u64 = 14;
@@ -129,6 +129,17 @@ impl Slave {
         ensures { λ r. ⌜ (r ≡ placeOf self) × (r < registerCount) ⌝ }
     {
         (self.body.address % REGISTERS) as usize
+    }
+
+    // Whether a column changes nothing of it, so that it passes on its far neighbour's bit: at rest, "while zeros last".
+    pub fn idles(self, master: bool) -> bool
+        ensures { λ r. ⌜ r ≡ idles (stateOf self) master ⌝ }
+    {
+        let kind = self.kind;
+        match kind {
+            Kind::Rest => !master,
+            _ => false,
+        }
     }
 
     // One column, with what stands at its place.
