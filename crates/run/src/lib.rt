@@ -91,9 +91,10 @@ fn pass_slave(rights: &[u8], registers: &mut [u8], cdm: &[u8], cds: &mut [u8])
     while i < cdm.len() {
         let master = cdm[i] == 1;
         let far = cds[i] == 1;
-        // At rest no step: it would only copy the slave.
-        if slave.idles(master) {
+        if slave.silent() {
             cds[i] = far as u8;
+            let next = slave.heard(master);
+            slave = next;
         } else {
             let at = slave.place();
             let seen = Seen {

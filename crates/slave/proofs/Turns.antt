@@ -1,7 +1,6 @@
--- Turns: what has to be shown of a branch of a slave's step, where it stores nothing and where it stores; and the column that needs no
--- step. Assumes nothing.
+-- Turns: what has to be shown of a branch of a slave's step, where it stores nothing and where it stores. Assumes nothing.
 use mathlib.Core.Path.{_≡_, refl, sym}
-use mathlib.Core.Bool.{Bool, true, false, cond, false≢true}
+use mathlib.Core.Bool.{Bool, true, false, cond}
 use mathlib.Core.Option.{none, some, Option·none-ne-some}
 use Prim.Native.Nat.{ℕ, _≤_, _<_}
 use borrow.Author.Tests.{lt-ltb, le-ltb}
@@ -12,7 +11,7 @@ use Rattle.line.specs.Rest.{Timed, power, rest, frame, timer, judge}
 use Rattle.line.specs.Memory.{Memory, stored}
 use Rattle.line.specs.Slave as line
 use Rattle.line.proofs.Dress.{stepTo}
-use Rattle.slave.specs.Code.{placeBy, formBy, timed, stateBy, placeOf, judgedAt, idles, turned, Shows, Meets, Steps}
+use Rattle.slave.specs.Code.{placeBy, formBy, timed, stateBy, placeOf, judgedAt, turned, Shows, Meets, Steps}
 use Rattle.slave.specs.declared.Kind.{Kind}
 use Rattle.slave.specs.declared.Kind.the-variants.{Rest}
 use Rattle.slave.specs.declared.Body.{Body}
@@ -83,11 +82,3 @@ module _ (s : Slave) (seen : Seen) (r : Turn) {z′ : ℕ}
             rw (t, kept k (placeOf s) seen shows)
             (ended k (formBy (s .kind) (s .body)) (s .zeros) (seen .master) (seen .far) (rw (le-ltb z′ restZeros h) at e));
       }
-
--- A column that idles leaves the slave as it is, and it sends the bit that it sees.
-pub idle : (k : Memory) (s : Timed line.Phase) (m b : Bool) → idles s m ≡ true → line.step (line.slave k s) m b ≡ stepTo k s b
-unfolding idles line.step judge
-idle k (power z) m b e = absurd (false≢true e)
-idle k rest true b e = absurd (false≢true e)
-idle k rest false b e = refl
-idle k (frame z p) m b e = absurd (false≢true e)

@@ -1,14 +1,14 @@
 -- What the code's slave stands for in line's definitions, for the contracts: nothing here is needed to read what run promises.
 -- Every value of the types stands for something, so that no contract asks for a good state.
 use mathlib.Core.Path.{_≡_}
-use mathlib.Core.Bool.{Bool, true, false, cond, not, _&&_}
+use mathlib.Core.Bool.{Bool, true, false, cond, _&&_}
 use mathlib.Core.Option.{Option, none, some}
 use Prim.Native.Nat.{ℕ, _+_, _-_, _/_, _%_, _^_, min}
 use lib.Dec.{ltb}
 use lib.ListN.{getD}
 use Rattle.line.specs.Limits.{headerColumns, idCount, registerCount, byteLimit}
 use Rattle.line.specs.Bits.{num, bit}
-use Rattle.line.specs.Rest.{Timed, power, rest, frame, Judged, still, meant}
+use Rattle.line.specs.Rest.{Timed, power, rest, frame, Judged, still, ends, meant, judge}
 use Rattle.line.specs.Division.{checkWidth}
 use Rattle.line.specs.Header.{header}
 use Rattle.line.specs.Memory.{Memory, stored}
@@ -88,11 +88,25 @@ stateOf s = stateBy (s .kind) (s .zeros) (s .body)
 abbrev pub placeOf : Slave → ℕ
 placeOf s = placeBy (s .body)
 
--- Rest: "they stay there while zeros last": such a column changes nothing of a slave, and it passes on the bit that it sees.
-unfoldable pub idles : Timed line.Phase → (m : Bool) → Bool
-idles (power z) m = false
-idles rest m = not m
-idles (frame z p) m = false
+-- What a column makes of a slave with nothing to say, once it is judged ..
+abbrev pub unsaid : Judged line.Phase → Timed line.Phase
+unsaid (still s) = s
+unsaid ends = rest
+unsaid (meant z p) = frame z p
+
+-- .. from the column ..
+unfoldable pub heardBy : Timed line.Phase → (m : Bool) → Timed line.Phase
+heardBy s m = unsaid (judge line.begun s m)
+
+-- .. and, of all but rest, from the zeros counted: none is the fourteenth.
+abbrev pub waitedBy : Option ℕ → Timed line.Phase → Timed line.Phase
+waitedBy none s = rest
+waitedBy (some z) s = timed z s
+
+-- Chain: "A slave with nothing to say passes on the bit it sees". What silent promises where it says yes: no more than that happens.
+pub record Silent (s : Slave) (r : Bool) : Type 0 where
+  pub over : r ≡ true → (k : Memory) (m b : Bool)
+      → line.step (line.slave k (stateOf s)) m b ≡ record { slave = line.slave k (heardBy (stateOf s) m); sent = b }
 
 -- A turn of its parts.
 abbrev pub turned : Kind → (zeros : ℕ) → Body → (sent : Bool) → (byte : ℕ) → Turn

@@ -9,7 +9,6 @@ use borrow.Author.Needs.{needs}
 use lib.ListN.{length, length-set, take, drop}
 use Rattle.line.specs.Bits.{num, rowOf}
 use Rattle.line.specs.Slave as line
-use Rattle.slave.proofs.Turns.{idle}
 use Rattle.slave.specs.Code.{stateOf}
 use Rattle.run.specs.Parts.{sentBy, leftBy, memoryBy, newBy}
 use Rattle.run.proofs.Slaves.{own-step, sent-next, left-next, passed}
@@ -39,8 +38,8 @@ shared-slice-read-master c = search needs
 slice-read-far : tie.Need-slice-read-far Inv-loop μ-loop
 slice-read-far c = search needs
 
-idles-requires : tie.Need-idles-requires Inv-loop μ-loop
-idles-requires c κs = search needs
+silent-requires : tie.Need-silent-requires Inv-loop μ-loop
+silent-requires c κs = search needs
 
 cast-cds : tie.Need-cast-cds Inv-loop μ-loop
 cast-cds c = search needs
@@ -48,14 +47,17 @@ cast-cds c = search needs
 slice-write-cds : tie.Need-slice-write-cds Inv-loop μ-loop
 slice-write-cds c = search needs
 
+heard-requires : tie.Need-heard-requires Inv-loop μ-loop
+heard-requires c κs = search needs
+
 place-requires : tie.Need-place-requires Inv-loop μ-loop
 place-requires c κs = search needs
 
 shared-slice-read-cds : tie.Need-shared-slice-read-cds Inv-loop μ-loop
 shared-slice-read-cds c = search needs
 
-slice-read-t24 : tie.Need-slice-read-t24 Inv-loop μ-loop
-slice-read-t24 c = search needs
+slice-read-t25 : tie.Need-slice-read-t25 Inv-loop μ-loop
+slice-read-t25 c = search needs
 
 step-requires : tie.Need-step-requires Inv-loop μ-loop
 step-requires c κs = search needs
@@ -86,12 +88,12 @@ loop-again c =
     let room : l .i < length (l .cds) = omega (arith, l .inv .2, start .pre .2, small) in
     ⊎-elim
     (λ w.
-    let own = idle (memoryBy (l .registers) rights) (stateOf (l .slave)) _ _ (sym (c .before .idles .ensures) ∙ w .0 .taken) in (
+    let own = c .before .silent .ensures .over (w .0 .taken) (memoryBy (l .registers) rights) _ _ in (
       search needs,
-      rw (w .1) (l .inv .1),
-      rw (w .2, length-set) (l .inv .2),
-      rw (w .1, w .2, w .3) (sym (sent-next _ _ _ cdm (l .cds) (l .i) small room own) ∙ l .inv .3),
-      rw (w .1, w .2, w .3) (sym (left-next _ _ _ cdm (l .cds) (l .i) small room own) ∙ l .inv .4),
+      rw (w .2) (l .inv .1),
+      rw (w .3, length-set) (l .inv .2),
+      rw (w .2, w .3, w .4, w .1 .ensures) (sym (sent-next _ _ _ cdm (l .cds) (l .i) small room own) ∙ l .inv .3),
+      rw (w .2, w .3, w .4, w .1 .ensures) (sym (left-next _ _ _ cdm (l .cds) (l .i) small room own) ∙ l .inv .4),
     ))
     (λ w.
     let place = w .1 in
@@ -128,12 +130,13 @@ pass-slave-spec =
     loop-holds
     shared-slice-read-master
     slice-read-far
-    idles-requires
+    silent-requires
     cast-cds
     slice-write-cds
+    heard-requires
     place-requires
     shared-slice-read-cds
-    slice-read-t24
+    slice-read-t25
     step-requires
     slice-write-registers
     cast-cds-2
