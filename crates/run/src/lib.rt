@@ -89,18 +89,26 @@ fn pass_slave(rights: &[u8], registers: &mut [u8], cdm: &[u8], cds: &mut [u8])
     let mut slave = Slave::new();
     let mut i = 0;
     while i < cdm.len() {
-        let at = slave.place();
-        let seen = Seen {
-            master: cdm[i] == 1,
-            far: cds[i] == 1,
-            right: rights[at],
-            byte: registers[at],
-        };
-        let turn = slave.step(seen);
-        registers[at] = turn.byte;
-        cds[i] = turn.sent as u8;
-        let next = turn.next;
-        slave = next;
+        let master = cdm[i] == 1;
+        let far = cds[i] == 1;
+        if slave.silent() {
+            cds[i] = far as u8;
+            let next = slave.heard(master);
+            slave = next;
+        } else {
+            let at = slave.place();
+            let seen = Seen {
+                master: master,
+                far: far,
+                right: rights[at],
+                byte: registers[at],
+            };
+            let turn = slave.step(seen);
+            registers[at] = turn.byte;
+            cds[i] = turn.sent as u8;
+            let next = turn.next;
+            slave = next;
+        }
         i += 1;
     }
 }

@@ -8,7 +8,7 @@ use lib.Dec.{ltb}
 use lib.ListN.{getD}
 use Rattle.line.specs.Limits.{headerColumns, idCount, registerCount, byteLimit}
 use Rattle.line.specs.Bits.{num, bit}
-use Rattle.line.specs.Rest.{Timed, power, rest, frame, Judged, still, meant}
+use Rattle.line.specs.Rest.{Timed, power, rest, frame, Judged, still, ends, meant, judge}
 use Rattle.line.specs.Division.{checkWidth}
 use Rattle.line.specs.Header.{header}
 use Rattle.line.specs.Memory.{Memory, stored}
@@ -87,6 +87,26 @@ stateOf s = stateBy (s .kind) (s .zeros) (s .body)
 -- .. and the address that it is at.
 abbrev pub placeOf : Slave → ℕ
 placeOf s = placeBy (s .body)
+
+-- What a column makes of a slave with nothing to say, once it is judged ..
+abbrev pub unsaid : Judged line.Phase → Timed line.Phase
+unsaid (still s) = s
+unsaid ends = rest
+unsaid (meant z p) = frame z p
+
+-- .. from the column ..
+unfoldable pub heardBy : Timed line.Phase → (m : Bool) → Timed line.Phase
+heardBy s m = unsaid (judge line.begun s m)
+
+-- .. and, of all but rest, from the zeros counted: none is the fourteenth.
+abbrev pub waitedBy : Option ℕ → Timed line.Phase → Timed line.Phase
+waitedBy none s = rest
+waitedBy (some z) s = timed z s
+
+-- Chain: "A slave with nothing to say passes on the bit it sees". What silent promises where it says yes: no more than that happens.
+pub record Silent (s : Slave) (r : Bool) : Type 0 where
+  pub over : r ≡ true → (k : Memory) (m b : Bool)
+      → line.step (line.slave k (stateOf s)) m b ≡ record { slave = line.slave k (heardBy (stateOf s) m); sent = b }
 
 -- A turn of its parts.
 abbrev pub turned : Kind → (zeros : ℕ) → Body → (sent : Bool) → (byte : ℕ) → Turn

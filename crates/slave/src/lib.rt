@@ -6,9 +6,10 @@ ghost use Prim.Native.Nat.{_<_};
 ghost use lib.Dec.{ltb};
 ghost use Rattle.line.specs.Limits.{restZeros, registerCount};
 ghost use Rattle.line.specs.Bits.{num, bit};
-ghost use Rattle.line.specs.Rest.{powerOn, timer};
+ghost use Rattle.line.specs.Rest.{powerOn, frame, timer};
 ghost use Rattle.line.specs.Division.{dataBits, word};
-ghost use Rattle.slave.specs.Code.{stateOf, placeOf, turned, nextColumn, nextAddress, lockOf, Meets, Steps, lockedAs, CalledAs, goesOn};
+ghost use Rattle.line.specs.Slave.{begun};
+ghost use Rattle.slave.specs.Code.{stateOf, stateBy, placeOf, Silent, heardBy, waitedBy, turned, nextColumn, nextAddress, lockOf, Meets, Steps, lockedAs, CalledAs, goesOn};
 
 // Rest: "Fourteen CDM zeros in a row end anything, at any place."
 const REST: u64 = 14;
@@ -131,6 +132,30 @@ impl Slave {
         (self.body.address % REGISTERS) as usize
     }
 
+    // Whether it has nothing to say, whatever it sees: it passes on its far neighbour's bit and looks at no register.
+    pub fn silent(self) -> bool
+        ensures { λ r. ⌜ Silent self r ⌝ }
+    {
+        let kind = self.kind;
+        match kind {
+            Kind::Power => true,
+            Kind::Rest => true,
+            Kind::Deaf => true,
+            _ => false,
+        }
+    }
+
+    // One column of a slave with nothing to say.
+    pub fn heard(self, master: bool) -> Slave
+        ensures { λ r. ⌜ stateOf r ≡ heardBy (stateOf self) master ⌝ }
+    {
+        let kind = self.kind;
+        match kind {
+            Kind::Rest => woken(self, master),
+            _ => waited(self, master),
+        }
+    }
+
     // One column, with what stands at its place.
     pub fn step(self, seen: Seen) -> Turn
         ensures { λ r. ⌜ Steps self seen r ⌝ }
@@ -193,18 +218,63 @@ fn meant(kind: Kind, zeros: u64, body: Body, seen: Seen) -> Turn
     }
 }
 
+// Rest: "they stay there while zeros last", so that no zero is counted.
+fn woken(slave: Slave, master: bool) -> Slave
+    ensures { λ r. ⌜ stateOf r ≡ cond master (frame 0 begun) (stateOf slave) ⌝ }
+{
+    if master {
+        let body = begun(slave.body);
+        Slave {
+            kind: Kind::Locks,
+            zeros: 0,
+            body: body,
+        }
+    } else {
+        slave
+    }
+}
+
+// Rest: "Fourteen CDM zeros in a row end anything, at any place."
+fn waited(slave: Slave, master: bool) -> Slave
+    ensures { λ r. ⌜ stateOf r ≡ waitedBy (timer (slave .zeros) master) (stateOf slave) ⌝ }
+{
+    let kind = slave.kind;
+    let body = slave.body;
+    let zeros = counted(slave.zeros, master);
+    if zeros < REST {
+        Slave {
+            kind: kind,
+            zeros: zeros,
+            body: body,
+        }
+    } else {
+        Slave {
+            kind: Kind::Rest,
+            zeros: 0,
+            body: body,
+        }
+    }
+}
+
 // Start: "The first 1 after rest is the start bit S (answer 0). All numbers are dropped there".
+fn begun(body: Body) -> Body
+    ensures { λ r. ⌜ stateBy Kind.Locks 0 r ≡ frame 0 begun ⌝ }
+{
+    let mut n = body;
+    n.column = LOCK_FIRST;
+    n.word = 0;
+    n.number = NONE;
+    n
+}
+
+// At rest a 1 is S, and a 0 means nothing.
 fn rest(zeros: u64, body: Body, seen: Seen) -> Turn
     ensures { λ r. ⌜ Meets Kind.Rest zeros body seen r ⌝ }
 {
-    let mut n = body;
     if seen.master {
-        n.column = LOCK_FIRST;
-        n.word = 0;
-        n.number = NONE;
-        said(Kind::Locks, 0, n, seen.far, seen.byte)
+        said(Kind::Locks, 0, begun(body), seen.far, seen.byte)
     } else {
-        said(Kind::Rest, zeros, n, seen.far, seen.byte)
+        said(Kind::Rest, zeros, body, seen.far, seen.byte)
     }
 }
 

@@ -1,6 +1,7 @@
 -- `run::pass_slave` meets its contract. The loop's invariant: the bits sent so far and those that are left are all that the slave sends.
 -- Assumes nothing.
 use mathlib.Core.List.{map, _++_}
+use mathlib.Core.Logic.{⊎-elim}
 use mathlib.Core.Path.{_≡_, refl, sym, _∙_}
 use Prim.Native.Nat.{_+_, _-_, _≤_, _<_}
 use native.Mathlib.Omega.{arith}
@@ -8,9 +9,9 @@ use borrow.Author.Needs.{needs}
 use lib.ListN.{length, length-set, take, drop}
 use Rattle.line.specs.Bits.{num, rowOf}
 use Rattle.line.specs.Slave as line
-use Rattle.run.proofs.Slaves.{own-step, sent-next, left-next, passed}
-use Rattle.run.specs.Parts.{sentBy, leftBy, memoryBy, newBy}
 use Rattle.slave.specs.Code.{stateOf}
+use Rattle.run.specs.Parts.{sentBy, leftBy, memoryBy, newBy}
+use Rattle.run.proofs.Slaves.{own-step, sent-next, left-next, passed}
 use Rattle.run.proofs.pass_slave.Statement.{statement}
 use Rattle.run.proofs.pass_slave.Tie as tie
 
@@ -31,26 +32,14 @@ new-requires c κs = search needs
 loop-holds : tie.Need-loop-holds Inv-loop μ-loop
 loop-holds c = (search needs, refl, refl, rw (c .new .ensures), rw (c .new .ensures))
 
-place-requires : tie.Need-place-requires Inv-loop μ-loop
-place-requires c κs = search needs
+shared-slice-read-master : tie.Need-shared-slice-read-master Inv-loop μ-loop
+shared-slice-read-master c = search needs
 
-shared-slice-read-t14 : tie.Need-shared-slice-read-t14 Inv-loop μ-loop
-shared-slice-read-t14 c = search needs
+slice-read-far : tie.Need-slice-read-far Inv-loop μ-loop
+slice-read-far c = search needs
 
-slice-read-t16 : tie.Need-slice-read-t16 Inv-loop μ-loop
-slice-read-t16 c = search needs
-
-shared-slice-read-t19 : tie.Need-shared-slice-read-t19 Inv-loop μ-loop
-shared-slice-read-t19 c = search needs
-
-slice-read-t21 : tie.Need-slice-read-t21 Inv-loop μ-loop
-slice-read-t21 c = search needs
-
-step-requires : tie.Need-step-requires Inv-loop μ-loop
-step-requires c κs = search needs
-
-slice-write-registers : tie.Need-slice-write-registers Inv-loop μ-loop
-slice-write-registers c = search needs
+silent-requires : tie.Need-silent-requires Inv-loop μ-loop
+silent-requires c κs = search needs
 
 cast-cds : tie.Need-cast-cds Inv-loop μ-loop
 cast-cds c = search needs
@@ -58,32 +47,65 @@ cast-cds c = search needs
 slice-write-cds : tie.Need-slice-write-cds Inv-loop μ-loop
 slice-write-cds c = search needs
 
+heard-requires : tie.Need-heard-requires Inv-loop μ-loop
+heard-requires c κs = search needs
+
+place-requires : tie.Need-place-requires Inv-loop μ-loop
+place-requires c κs = search needs
+
+shared-slice-read-cds : tie.Need-shared-slice-read-cds Inv-loop μ-loop
+shared-slice-read-cds c = search needs
+
+slice-read-t25 : tie.Need-slice-read-t25 Inv-loop μ-loop
+slice-read-t25 c = search needs
+
+step-requires : tie.Need-step-requires Inv-loop μ-loop
+step-requires c κs = search needs
+
+slice-write-registers : tie.Need-slice-write-registers Inv-loop μ-loop
+slice-write-registers c = search needs
+
+cast-cds-2 : tie.Need-cast-cds-2 Inv-loop μ-loop
+cast-cds-2 c = search needs
+
+slice-write-cds-2 : tie.Need-slice-write-cds-2 Inv-loop μ-loop
+slice-write-cds-2 c = search needs
+
 add-i : tie.Need-add-i Inv-loop μ-loop
-add-i c =
-    let test = c .before .before .before .before .before .before .before .before in
-    let start = test .before .before .before .before .before .before .before in
-    omega (arith, test .loop-test .taken, start .good .1 .1 .0)
+add-i c = search needs
 
 loop-less : tie.Need-loop-less Inv-loop μ-loop
 loop-less c = search needs
 
 loop-again : tie.Need-loop-again Inv-loop μ-loop
 loop-again c =
-    let step = c .before .before .step in
-    let place = c .before .before .before .before .before .before .before .place in
-    let test = c .before .before .before .before .before .before .before .before in
+    let test = c .before .before .before .before in
     let l = test .before .loop in
     let start = test .before .before .before .before .before .before .before in
-    let room : l .i < length (l .cds) = omega (arith, l .inv .2, start .pre .2, test .loop-test .taken) in
-    let own =
-    own-step (l .registers) (start .args .rights .now) (l .slave) (place .result) _ _ (step .result)
-    (place .ensures .0) (step .ensures) in (
+    let cdm = start .args .cdm .now in
+    let rights = start .args .rights .now in
+    let small = test .loop-test .taken in
+    let room : l .i < length (l .cds) = omega (arith, l .inv .2, start .pre .2, small) in
+    ⊎-elim
+    (λ w.
+    let own = c .before .silent .ensures .over (w .0 .taken) (memoryBy (l .registers) rights) _ _ in (
       search needs,
-      rw length-set (l .inv .1),
-      rw length-set (l .inv .2),
-      sym (sent-next _ _ _ (start .args .cdm .now) (l .cds) (l .i) (test .loop-test .taken) room own) ∙ l .inv .3,
-      sym (left-next _ _ _ (start .args .cdm .now) (l .cds) (l .i) (test .loop-test .taken) room own) ∙ l .inv .4,
-    )
+      rw (w .2) (l .inv .1),
+      rw (w .3, length-set) (l .inv .2),
+      rw (w .2, w .3, w .4, w .1 .ensures) (sym (sent-next _ _ _ cdm (l .cds) (l .i) small room own) ∙ l .inv .3),
+      rw (w .2, w .3, w .4, w .1 .ensures) (sym (left-next _ _ _ cdm (l .cds) (l .i) small room own) ∙ l .inv .4),
+    ))
+    (λ w.
+    let place = w .1 in
+    let step = w .4 in
+    let own = own-step (l .registers) rights (l .slave) (place .result) _ _ (step .result) (place .ensures .0) (step .ensures) in (
+      search needs,
+      rw (w .7, length-set) (l .inv .1),
+      rw (w .8, length-set) (l .inv .2),
+      rw (w .7, w .8, w .9) (sym (sent-next _ _ _ cdm (l .cds) (l .i) small room own) ∙ l .inv .3),
+      rw (w .7, w .8, w .9) (sym (left-next _ _ _ cdm (l .cds) (l .i) small room own) ∙ l .inv .4),
+    ))
+    (c .if1 .came)
 
 same-length : tie.Need-same-length Inv-loop μ-loop
 same-length c = c .before .loop .inv .1
@@ -106,15 +128,19 @@ pass-slave-spec =
     μ-loop
     new-requires
     loop-holds
-    place-requires
-    shared-slice-read-t14
-    slice-read-t16
-    shared-slice-read-t19
-    slice-read-t21
-    step-requires
-    slice-write-registers
+    shared-slice-read-master
+    slice-read-far
+    silent-requires
     cast-cds
     slice-write-cds
+    heard-requires
+    place-requires
+    shared-slice-read-cds
+    slice-read-t25
+    step-requires
+    slice-write-registers
+    cast-cds-2
+    slice-write-cds-2
     add-i
     loop-less
     loop-again

@@ -1,0 +1,81 @@
+-- A slave with nothing to say: a column only counts for it, and it passes on the bit that it sees. Assumes nothing.
+use mathlib.Core.Path.{_≡_, refl}
+use mathlib.Core.Bool.{Bool, true, false, cond}
+use mathlib.Core.List.{List, [], _∷_}
+use mathlib.Core.Option.{Option, none, some}
+use Prim.Native.Nat.{ℕ}
+use denote.Enum.Declared.{tagOf}
+use types.Run.{OneOf, miss}
+use Rattle.line.specs.Rest.{Timed, power, rest, frame, waiting, running, timer, judge}
+use Rattle.line.specs.Memory.{Memory}
+use Rattle.line.specs.Slave as line
+use Rattle.line.proofs.Dress.{stepTo}
+use Rattle.slave.specs.Code.{timed, stateBy, unsaid, heardBy, waitedBy}
+use Rattle.slave.specs.declared.Kind.{Kind}
+use Rattle.slave.specs.declared.Kind.the-variants.{Power, Rest, Deaf, Locks, Head, AskR, AskW, ByteS, Sends, Takes, AskP}
+use Rattle.slave.specs.declared.Body.{Body}
+use Rattle.slave.proofs.Kind.{the-type}
+
+-- The states in which it has nothing to say: power-on, rest, deaf.
+module _ (k : Memory) (m b : Bool) where
+  waiting-passes : (z : Option ℕ) → line.stepped k (waiting z) m b ≡ stepTo k (unsaid (waiting z)) b
+  waiting-passes none = refl
+  waiting-passes (some z) = refl
+
+  deafness-passes : (z : Option ℕ) → line.stepped k (running z line.deaf) m b ≡ stepTo k (unsaid (running z line.deaf)) b
+  unfolding line.speak
+  deafness-passes none = refl
+  deafness-passes (some z) = refl
+
+  pub power-passes : (z : ℕ) → line.step (line.slave k (power z)) m b ≡ stepTo k (heardBy (power z) m) b
+  unfolding line.step judge heardBy
+  power-passes z = waiting-passes (timer z m)
+
+  pub deaf-passes : (z : ℕ) → line.step (line.slave k (frame z line.deaf)) m b ≡ stepTo k (heardBy (frame z line.deaf) m) b
+  unfolding line.step judge heardBy
+  deaf-passes z = deafness-passes (timer z m)
+
+pub rest-passes : (k : Memory) (m b : Bool) → line.step (line.slave k rest) m b ≡ stepTo k (heardBy rest m) b
+unfolding line.step judge heardBy
+rest-passes k true b = refl
+rest-passes k false b = refl
+
+-- What it hears at rest ..
+pub rest-hears : (m : Bool) → cond m (frame 0 line.begun) rest ≡ heardBy rest m
+unfolding heardBy judge
+rest-hears true = refl
+rest-hears false = refl
+
+-- .. and in any other state, where its zeros are counted.
+power-waits : (z : ℕ) (z′ : Option ℕ) → waitedBy z′ (power z) ≡ unsaid (waiting z′)
+power-waits z none = refl
+power-waits z (some z′) = refl
+
+frame-waits : (z : ℕ) (p : line.Phase) (z′ : Option ℕ) → waitedBy z′ (frame z p) ≡ unsaid (running z′ p)
+frame-waits z p none = refl
+frame-waits z p (some z′) = refl
+
+-- The kinds but Rest, by their places.
+abbrev others : List ℕ
+others = 0 ∷ 2 ∷ 3 ∷ 4 ∷ 5 ∷ 6 ∷ 7 ∷ 8 ∷ 9 ∷ 10 ∷ []
+
+pub other-hears : (kind : Kind) (z : ℕ) (b : Body) (m : Bool) → OneOf others (tagOf the-type kind)
+    → waitedBy (timer z m) (stateBy kind z b) ≡ heardBy (stateBy kind z b) m
+unfolding heardBy judge
+other-hears Power z b m h = power-waits z (timer z m)
+other-hears Rest z b m h = absurd (miss others 1 tt h)
+other-hears Deaf z b m h = frame-waits z _ (timer z m)
+other-hears Locks z b m h = frame-waits z _ (timer z m)
+other-hears Head z b m h = frame-waits z _ (timer z m)
+other-hears AskR z b m h = frame-waits z _ (timer z m)
+other-hears AskW z b m h = frame-waits z _ (timer z m)
+other-hears ByteS z b m h = frame-waits z _ (timer z m)
+other-hears Sends z b m h = frame-waits z _ (timer z m)
+other-hears Takes z b m h = frame-waits z _ (timer z m)
+other-hears AskP z b m h = frame-waits z _ (timer z m)
+
+-- Zeros counted anew stand in the place of those before.
+pub timed-anew : (z z′ : ℕ) (s : Timed line.Phase) → timed z (timed z′ s) ≡ timed z s
+timed-anew z z′ (power _) = refl
+timed-anew z z′ rest = refl
+timed-anew z z′ (frame _ p) = refl

@@ -1,0 +1,28 @@
+-- `slave::Slave::heard` meets its contract: at rest a 1 is S, and elsewhere the zeros are counted. Assumes nothing.
+use mathlib.Core.Path.{_∙_}
+use borrow.Author.Needs.{needs}
+use Rattle.slave.proofs.Silence.{rest-hears, other-hears}
+use Rattle.slave.proofs.Slave.heard.Statement.{statement}
+use Rattle.slave.proofs.Slave.heard.Tie as tie
+
+enum-told : tie.Need-enum-told
+enum-told c = search needs
+
+woken-requires : tie.Need-woken-requires
+woken-requires c κs = search needs
+
+waited-requires : tie.Need-waited-requires
+waited-requires c κs = search needs
+
+returns : tie.Need-returns
+returns c =
+    let at-rest = c .before .enum-told .given .1 in
+    c .woken .ensures ∙ rw at-rest (rest-hears (c .before .before .before .args .master))
+
+returns-2 : tie.Need-returns-2
+returns-2 c =
+    let a = c .before .before .args in
+    c .waited .ensures ∙ other-hears (a .self .kind) (a .self .zeros) (a .self .body) (a .master) (c .before .match .keys2)
+
+pub heard-spec : {M : Type 1} → statement M
+heard-spec = tie.close (tie.spec enum-told woken-requires waited-requires returns returns-2)
