@@ -3,3 +3,4 @@ pub mod Silence
 pub mod Words
 pub mod Heads
 pub mod Accesses
+mod Unique

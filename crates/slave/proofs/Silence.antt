@@ -1,6 +1,6 @@
 -- A slave with nothing to say: a column only counts for it, and it passes on the bit that it sees. Assumes nothing.
 use mathlib.Core.Path.{_≡_, refl}
-use mathlib.Core.Bool.{Bool, true, false, cond}
+use mathlib.Core.Bool.{Bool, true, false, cond, false≢true}
 use mathlib.Core.List.{List, [], _∷_}
 use mathlib.Core.Option.{Option, none, some}
 use Prim.Native.Nat.{ℕ}
@@ -9,8 +9,9 @@ use types.Run.{OneOf, miss}
 use Rattle.line.specs.Rest.{Timed, power, rest, frame, waiting, running, timer, judge}
 use Rattle.line.specs.Memory.{Memory}
 use Rattle.line.specs.Slave as line
+use Rattle.line.specs.Slave.{deaf, locks, head, askR, askW, byteS, sends, takes, askP}
 use Rattle.line.proofs.Dress.{stepTo}
-use Rattle.slave.specs.Code.{timed, stateBy, unsaid, heardBy, waitedBy}
+use Rattle.slave.specs.Code.{timed, stateBy, unsaid, heardBy, waitedBy, saysNothing}
 use Rattle.slave.specs.declared.Kind.{Kind}
 use Rattle.slave.specs.declared.Kind.the-variants.{Power, Rest, Deaf, Locks, Head, AskR, AskW, ByteS, Sends, Takes, AskP}
 use Rattle.slave.specs.declared.Body.{Body}
@@ -27,18 +28,49 @@ module _ (k : Memory) (m b : Bool) where
   deafness-passes none = refl
   deafness-passes (some z) = refl
 
-  pub power-passes : (z : ℕ) → line.step (line.slave k (power z)) m b ≡ stepTo k (heardBy (power z) m) b
+  power-passes : (z : ℕ) → line.step (line.slave k (power z)) m b ≡ stepTo k (heardBy (power z) m) b
   unfolding line.step judge heardBy
   power-passes z = waiting-passes (timer z m)
 
-  pub deaf-passes : (z : ℕ) → line.step (line.slave k (frame z line.deaf)) m b ≡ stepTo k (heardBy (frame z line.deaf) m) b
+  deaf-passes : (z : ℕ) → line.step (line.slave k (frame z line.deaf)) m b ≡ stepTo k (heardBy (frame z line.deaf) m) b
   unfolding line.step judge heardBy
   deaf-passes z = deafness-passes (timer z m)
 
-pub rest-passes : (k : Memory) (m b : Bool) → line.step (line.slave k rest) m b ≡ stepTo k (heardBy rest m) b
+rest-passes : (k : Memory) (m b : Bool) → line.step (line.slave k rest) m b ≡ stepTo k (heardBy rest m) b
 unfolding line.step judge heardBy
 rest-passes k true b = refl
 rest-passes k false b = refl
+
+-- All of them.
+pub passes-on : (k : Memory) (s : Timed line.Phase) (m b : Bool) → saysNothing s ≡ true → line.step (line.slave k s) m b ≡ stepTo k (heardBy s m) b
+passes-on k (power z) m b e = power-passes k m b z
+passes-on k rest m b e = rest-passes k m b
+passes-on k (frame z deaf) m b e = deaf-passes k m b z
+passes-on k (frame z (locks column so-far number)) m b e = absurd (false≢true e)
+passes-on k (frame z (head column so-far number)) m b e = absurd (false≢true e)
+passes-on k (frame z (askR address)) m b e = absurd (false≢true e)
+passes-on k (frame z (askW address r)) m b e = absurd (false≢true e)
+passes-on k (frame z (byteS write address nth)) m b e = absurd (false≢true e)
+passes-on k (frame z (sends address nth left w)) m b e = absurd (false≢true e)
+passes-on k (frame z (takes address nth left so-far)) m b e = absurd (false≢true e)
+passes-on k (frame z (askP write good address nth)) m b e = absurd (false≢true e)
+
+-- The other kinds, by their places: each may speak.
+abbrev speakers : List ℕ
+speakers = 3 ∷ 4 ∷ 5 ∷ 6 ∷ 7 ∷ 8 ∷ 9 ∷ 10 ∷ []
+
+pub may-speak : (kind : Kind) (z : ℕ) (b : Body) → OneOf speakers (tagOf the-type kind) → false ≡ saysNothing (stateBy kind z b)
+may-speak Power z b h = absurd (miss speakers 0 tt h)
+may-speak Rest z b h = absurd (miss speakers 1 tt h)
+may-speak Deaf z b h = absurd (miss speakers 2 tt h)
+may-speak Locks z b h = refl
+may-speak Head z b h = refl
+may-speak AskR z b h = refl
+may-speak AskW z b h = refl
+may-speak ByteS z b h = refl
+may-speak Sends z b h = refl
+may-speak Takes z b h = refl
+may-speak AskP z b h = refl
 
 -- What it hears at rest ..
 pub rest-hears : (m : Bool) → cond m (frame 0 line.begun) rest ≡ heardBy rest m

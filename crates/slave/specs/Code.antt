@@ -13,6 +13,7 @@ use Rattle.line.specs.Division.{checkWidth}
 use Rattle.line.specs.Header.{header}
 use Rattle.line.specs.Memory.{Memory, stored}
 use Rattle.line.specs.Slave as line
+use Rattle.line.specs.Slave.{deaf, locks, head, askR, askW, byteS, sends, takes, askP}
 use Rattle.slave.specs.declared.Kind.{Kind}
 use Rattle.slave.specs.declared.Kind.the-variants.{Power, Rest, Deaf, Locks, Head, AskR, AskW, ByteS, Sends, Takes, AskP}
 use Rattle.slave.specs.declared.Body.{Body}
@@ -103,10 +104,23 @@ abbrev pub waitedBy : Option ℕ → Timed line.Phase → Timed line.Phase
 waitedBy none s = rest
 waitedBy (some z) s = timed z s
 
--- Chain: "A slave with nothing to say passes on the bit it sees". What silent promises where it says yes: no more than that happens.
-pub record Silent (s : Slave) (r : Bool) : Type 0 where
-  pub over : r ≡ true → (k : Memory) (m b : Bool)
-      → line.step (line.slave k (stateOf s)) m b ≡ record { slave = line.slave k (heardBy (stateOf s) m); sent = b }
+-- A phase in which a slave does not speak.
+abbrev pub isDeaf : line.Phase → Bool
+isDeaf deaf = true
+isDeaf (locks column so-far number) = false
+isDeaf (head column so-far number) = false
+isDeaf (askR address) = false
+isDeaf (askW address r) = false
+isDeaf (byteS write address nth) = false
+isDeaf (sends address nth left w) = false
+isDeaf (takes address nth left so-far) = false
+isDeaf (askP write good address nth) = false
+
+-- Chain: "A slave with nothing to say passes on the bit it sees": at power-on, at rest and deaf it has nothing to say.
+abbrev pub saysNothing : Timed line.Phase → Bool
+saysNothing (power z) = true
+saysNothing rest = true
+saysNothing (frame z p) = isDeaf p
 
 -- A turn of its parts.
 abbrev pub turned : Kind → (zeros : ℕ) → Body → (sent : Bool) → (byte : ℕ) → Turn

@@ -9,7 +9,7 @@ ghost use Rattle.line.specs.Bits.{num, bit};
 ghost use Rattle.line.specs.Rest.{powerOn, frame, timer};
 ghost use Rattle.line.specs.Division.{dataBits, word};
 ghost use Rattle.line.specs.Slave.{begun};
-ghost use Rattle.slave.specs.Code.{stateOf, stateBy, placeOf, Silent, heardBy, waitedBy, turned, nextColumn, nextAddress, lockOf, Meets, Steps, lockedAs, CalledAs, goesOn};
+ghost use Rattle.slave.specs.Code.{stateOf, stateBy, placeOf, saysNothing, heardBy, waitedBy, turned, nextColumn, nextAddress, lockOf, Meets, Steps, lockedAs, CalledAs, goesOn};
 
 // Rest: "Fourteen CDM zeros in a row end anything, at any place."
 const REST: u64 = 14;
@@ -134,7 +134,7 @@ impl Slave {
 
     // Whether it has nothing to say, whatever it sees: it passes on its far neighbour's bit and looks at no register.
     pub fn silent(self) -> bool
-        ensures { λ r. ⌜ Silent self r ⌝ }
+        ensures { λ r. ⌜ r ≡ saysNothing (stateOf self) ⌝ }
     {
         let kind = self.kind;
         match kind {

@@ -9,6 +9,7 @@ use borrow.Author.Needs.{needs}
 use lib.ListN.{length, length-set, take, drop}
 use Rattle.line.specs.Bits.{num, rowOf}
 use Rattle.line.specs.Slave as line
+use Rattle.slave.proofs.Silence.{passes-on}
 use Rattle.slave.specs.Code.{stateOf}
 use Rattle.run.specs.Parts.{sentBy, leftBy, memoryBy, newBy}
 use Rattle.run.proofs.Slaves.{own-step, sent-next, left-next, passed}
@@ -88,7 +89,7 @@ loop-again c =
     let room : l .i < length (l .cds) = omega (arith, l .inv .2, start .pre .2, small) in
     ⊎-elim
     (λ w.
-    let own = c .before .silent .ensures .over (w .0 .taken) (memoryBy (l .registers) rights) _ _ in (
+    let own = passes-on (memoryBy (l .registers) rights) (stateOf (l .slave)) _ _ (sym (c .before .silent .ensures) ∙ w .0 .taken) in (
       search needs,
       rw (w .2) (l .inv .1),
       rw (w .3, length-set) (l .inv .2),

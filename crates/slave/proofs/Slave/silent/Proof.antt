@@ -1,7 +1,6 @@
--- `slave::Slave::silent` meets its contract: at power-on, at rest and deaf a slave passes its bit on. Assumes nothing.
-use mathlib.Core.Bool.{false≢true}
+-- `slave::Slave::silent` meets its contract: at power-on, at rest and deaf a slave says nothing, elsewhere it may speak. Assumes nothing.
 use borrow.Author.Needs.{needs}
-use Rattle.slave.proofs.Silence.{power-passes, rest-passes, deaf-passes}
+use Rattle.slave.proofs.Silence.{may-speak}
 use Rattle.slave.proofs.Slave.silent.Statement.{statement}
 use Rattle.slave.proofs.Slave.silent.Tie as tie
 
@@ -15,16 +14,16 @@ enum-told-3 : tie.Need-enum-told-3
 enum-told-3 c = search needs
 
 returns : tie.Need-returns
-returns c = record { over = λ e k m b. rw (c .enum-told .given .1) (power-passes k m b _) }
+returns c = rw (c .enum-told .given .1)
 
 returns-2 : tie.Need-returns-2
-returns-2 c = record { over = λ e k m b. rw (c .enum-told2 .given .1) (rest-passes k m b) }
+returns-2 c = rw (c .enum-told2 .given .1)
 
 returns-3 : tie.Need-returns-3
-returns-3 c = record { over = λ e k m b. rw (c .enum-told3 .given .1) (deaf-passes k m b _) }
+returns-3 c = rw (c .enum-told3 .given .1)
 
 returns-4 : tie.Need-returns-4
-returns-4 c = record { over = λ e. absurd (false≢true e) }
+returns-4 c = let a = c .before .args in may-speak (a .self .kind) (a .self .zeros) (a .self .body) (c .match .keys4)
 
 pub silent-spec : {M : Type 1} → statement M
 silent-spec =
