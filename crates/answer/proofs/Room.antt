@@ -1,16 +1,17 @@
 -- Every answer fits into the room that the indexing program has for it, so there none is refused by 9. Assumes nothing.
 use mathlib.Core.Path.{_≡_, _∙_}
 use mathlib.Core.List.{List, [], _∷_}
-use Prim.Native.Nat.{ℕ, zero, suc, _+_, _*_, _^_, _≤_, _<_}
+use Prim.Native.Nat.{ℕ, _*_, _^_, _≤_, _<_}
 use native.Mathlib.Omega.{arith}
 use borrow.Author.Tests.{le-ltb, ltb-true, ltb-false}
 use lib.Dec.{ltb}
-use lib.ListN.{length, length-append, length-drop, drop}
+use lib.ListN.{length, length-append}
 use Rattle.line.specs.Limits.{columnLimit}
 use Rattle.line.specs.Entries.{Entry, bytesOf, listBytes}
-use Rattle.line.specs.Text.{Form, columnForm, headerForm, begins, fault, orElse, firstBad, badLine, cdmOf, cdsOf, entryLines}
+use Rattle.line.specs.Text.{badLine, cdmOf, cdsOf, entryLines}
 use Rattle.line.proofs.Every.{Every, either, tested}
 use Rattle.line.proofs.Codec.{read-back}
+use Rattle.line.proofs.Text.{bad-line-low}
 use Rattle.job.specs.Outcome.{outcome}
 use Rattle.job.specs.declared.Outcome.{Outcome}
 use Rattle.job.specs.declared.Outcome.the-variants.{Made}
@@ -50,32 +51,6 @@ line-fits : (line : ℕ) → line < 2 ^ 64 → length (refusedText (11 ∷ line 
 unfolding refusedText fieldsToEnd
 line-fits line h = simp length-append (omega (arith, twenty 11 (omega arith), twenty line h))
 
--- No bad line has a greater number than the text has bytes, and one.
-fault-low : (form : List Form) (before : ℕ) (text : List ℕ) → fault form before text ≤ suc before
-unfolding fault
-fault-low form before text = either (λ n. n ≤ suc before) (begins form text) (omega arith) (omega arith)
-
-or-low : (fault rest limit : ℕ) → fault ≤ limit → rest ≤ limit → orElse fault rest ≤ limit
-or-low zero rest limit f r = r
-or-low (suc n) rest limit f r = f
-
-bad-low : (before : ℕ) (text : List ℕ) → firstBad before text ≤ before + length text
-unfolding firstBad
-bad-low before [] = omega arith
-bad-low before (a ∷ []) = omega (arith, fault-low columnForm before (a ∷ []))
-bad-low before (a ∷ b ∷ []) = omega (arith, fault-low columnForm before (a ∷ b ∷ []))
-bad-low before (a ∷ b ∷ c ∷ []) = omega (arith, fault-low columnForm before (a ∷ b ∷ c ∷ []))
-bad-low before (a ∷ b ∷ c ∷ d ∷ text) =
-    or-low (fault columnForm before (a ∷ b ∷ c ∷ d ∷ [])) (firstBad (before + 1) text) (before + length (a ∷ b ∷ c ∷ d ∷ text))
-    (omega (arith, fault-low columnForm before (a ∷ b ∷ c ∷ d ∷ [])))
-    (omega (arith, bad-low (before + 1) text))
-
-line-low : (text : List ℕ) → badLine text ≤ 1 + length text
-unfolding badLine
-line-low text =
-    or-low (fault headerForm 0 text) (firstBad 1 (drop 8 text)) (1 + length text) (omega (arith, fault-low headerForm 0 text))
-    (omega (arith, bad-low 1 (drop 8 text), length-drop 8 text))
-
 rows-fit : (cdm cds : List ℕ) (k : ℕ) → length cdm ≤ columnLimit → length (rowsAnswer cdm cds k) ≤ answerRoom
 rows-fit cdm cds k h =
     tested (ltb (length cdm) k) (λ q. rw (answers-late cdm cds k (ltb-true (length cdm) k q)) (number-fits 8 (omega arith)))
@@ -93,7 +68,7 @@ rows-fit cdm cds k h =
 pub answer-fits : (text : List ℕ) (k : ℕ) → length text < 2 ^ 63 → length (answerText text k) ≤ answerRoom
 answer-fits text k h =
     tested (ltb 0 (badLine text))
-    (λ q. rw (answers-bad text k (ltb-true 0 (badLine text) q)) (line-fits (badLine text) (omega (arith, line-low text))))
+    (λ q. rw (answers-bad text k (ltb-true 0 (badLine text) q)) (line-fits (badLine text) (omega (arith, bad-line-low text))))
     (λ q.
     let good : badLine text ≡ 0 = omega (arith, ltb-false 0 (badLine text) q) in
     tested (ltb columnLimit (length (cdmOf text)))

@@ -1,50 +1,19 @@
 -- Every end of text to rows has room in its code: a lent text has fewer than 2 ^ 63 bytes and four of them to a line, so no bad line's
 -- number comes to 2 ^ 62. Assumes nothing.
-use mathlib.Core.Path.{_≡_}
 use mathlib.Core.Bool.{Bool, true, false, cond, _||_}
-use mathlib.Core.List.{List, [], _∷_}
-use Prim.Native.Nat.{ℕ, zero, suc, _+_, _/_, _^_, _≤_, _<_}
+use mathlib.Core.List.{List}
+use Prim.Native.Nat.{ℕ, _^_, _≤_, _<_}
 use native.Mathlib.Omega.{arith}
 use lib.Dec.{ltb, eqb}
-use lib.ListN.{length, drop, length-drop}
+use lib.ListN.{length}
 use Rattle.line.specs.Limits.{columnLimit}
-use Rattle.line.specs.Text.{Form, headerForm, columnForm, begins, fault, orElse, firstBad, badLine, cdmOf}
+use Rattle.line.specs.Text.{badLine, cdmOf}
+use Rattle.line.proofs.Text.{bad-line-low}
 use Rattle.carry.specs.Carry.{textRoom, textRefusal, taken, RowsTaken}
 use Rattle.carry.specs.declared.Taken.{Taken}
 use Rattle.carry.specs.declared.Taken.the-variants.{Columns, Refused, BadLine}
 use Rattle.carry.proofs.Ends.{columns-in}
 use Rattle.biss.specs.Coded.{Fits}
-
--- A fault is told of no later line than the one it is in ..
-fault-low : (form : List Form) (before : ℕ) (text : List ℕ) → fault form before text ≤ suc before
-unfolding fault
-fault-low form before text = from (begins form text)
-  where
-    from : (good : Bool) → cond good 0 (suc before) ≤ suc before
-    from true = omega arith
-    from false = omega arith
-
-either-low : (most a b : ℕ) → a ≤ most → b ≤ most → orElse a b ≤ most
-either-low most zero b h k = k
-either-low most (suc a) b h k = h
-
--- .. and four bytes go to a line, the last of which may be cut short.
-first-bad-low : (before : ℕ) (text : List ℕ) → firstBad before text ≤ before + (length text + 3) / 4
-unfolding firstBad
-first-bad-low before [] = omega arith
-first-bad-low before (a ∷ []) = omega (arith, fault-low columnForm before (a ∷ []))
-first-bad-low before (a ∷ b ∷ []) = omega (arith, fault-low columnForm before (a ∷ b ∷ []))
-first-bad-low before (a ∷ b ∷ c ∷ []) = omega (arith, fault-low columnForm before (a ∷ b ∷ c ∷ []))
-first-bad-low before (a ∷ b ∷ c ∷ d ∷ text) =
-    let line = a ∷ b ∷ c ∷ d ∷ [] in
-    either-low (before + (length (a ∷ b ∷ c ∷ d ∷ text) + 3) / 4) (fault columnForm before line) (firstBad (before + 1) text)
-    (omega (arith, fault-low columnForm before line)) (omega (arith, first-bad-low (before + 1) text))
-
-bad-line-low : (text : List ℕ) → badLine text ≤ 1 + length text / 4
-unfolding badLine
-bad-line-low text =
-    either-low (1 + length text / 4) (fault headerForm 0 text) (firstBad 1 (drop 8 text)) (omega (arith, fault-low headerForm 0 text))
-    (omega (arith, first-bad-low 1 (drop 8 text), length-drop 8 text))
 
 -- Text to rows refuses by 11, 5 or 9.
 refusal-low : (text : List ℕ) (cdm cds : ℕ) → textRefusal text cdm cds ≤ 11

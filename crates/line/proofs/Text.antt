@@ -2,7 +2,7 @@
 use mathlib.Core.Path.{_≡_, refl, ap, _∙_}
 use mathlib.Core.Bool.{Bool, true, false, _&&_, false≢true}
 use mathlib.Core.List.{List, [], _∷_, _++_, map}
-use Prim.Native.Nat.{ℕ, zero, suc, _+_, _-_, _*_, _%_, _≤_, _<_}
+use Prim.Native.Nat.{ℕ, zero, suc, _+_, _-_, _*_, _/_, _%_, _≤_, _<_}
 use native.Mathlib.Nat.{add-zero}
 use native.Mathlib.Omega.{arith}
 use borrow.Author.Tests.{eqb-true}
@@ -10,7 +10,7 @@ use lib.Dec.{eqb}
 use lib.ListN.{length, drop, getD, length-drop}
 use lib.Seq.{drop-cons, drop-append-le}
 use Rattle.line.specs.Text.{tab, feed, digit, rowsHeader, columnLine, columnLines, rowsText, Form, exactly, bit, has, headerForm, columnForm, begins, fault, orElse, firstBad, badLine, rowIn, cdmOf, cdsOf}
-use Rattle.line.proofs.Every.{Every, tested}
+use Rattle.line.proofs.Every.{Every, either, tested}
 
 -- Columns: "A row holds one byte per column, 0 or 1."
 abbrev pub Bits : List ℕ → Type 0
@@ -194,3 +194,30 @@ four text i h =
       drop-cons text (i + 3) 0 (omega arith),
       last,
     )
+
+-- The number of a bad line: a fault is told of no later line than the one it is in ..
+fault-low : (form : List Form) (before : ℕ) (text : List ℕ) → fault form before text ≤ suc before
+unfolding fault
+fault-low form before text = either (λ n. n ≤ suc before) (begins form text) (omega arith) (omega arith)
+
+or-low : (most fault rest : ℕ) → fault ≤ most → rest ≤ most → orElse fault rest ≤ most
+or-low most zero rest h k = k
+or-low most (suc fault) rest h k = h
+
+-- .. and four bytes go to a line, the last of which may be cut short.
+first-bad-low : (before : ℕ) (text : List ℕ) → firstBad before text ≤ before + (length text + 3) / 4
+unfolding firstBad
+first-bad-low before [] = omega arith
+first-bad-low before (a ∷ []) = omega (arith, fault-low columnForm before (a ∷ []))
+first-bad-low before (a ∷ b ∷ []) = omega (arith, fault-low columnForm before (a ∷ b ∷ []))
+first-bad-low before (a ∷ b ∷ c ∷ []) = omega (arith, fault-low columnForm before (a ∷ b ∷ c ∷ []))
+first-bad-low before (a ∷ b ∷ c ∷ d ∷ text) =
+    let line = a ∷ b ∷ c ∷ d ∷ [] in
+    or-low (before + (length (a ∷ b ∷ c ∷ d ∷ text) + 3) / 4) (fault columnForm before line) (firstBad (before + 1) text)
+    (omega (arith, fault-low columnForm before line)) (omega (arith, first-bad-low (before + 1) text))
+
+pub bad-line-low : (text : List ℕ) → badLine text ≤ 1 + length text / 4
+unfolding badLine
+bad-line-low text =
+    or-low (1 + length text / 4) (fault headerForm 0 text) (firstBad 1 (drop 8 text)) (omega (arith, fault-low headerForm 0 text))
+    (omega (arith, first-bad-low 1 (drop 8 text), length-drop 8 text))
