@@ -10,8 +10,7 @@ use mathlib.Core.Path.{_≡_, refl}
 use mathlib.Core.Bool.{Bool, true, false, not}
 use mathlib.Core.List.{List, [], _∷_, _++_, map}
 use Prim.Native.Nat.{ℕ, zero, suc}
-use lib.ListN.{replicate, set, drop}
-use Rattle.line.specs.Limits.{registerCount}
+use lib.ListN.{replicate, drop}
 use Rattle.line.specs.Bits.{bit, bits, push}
 use Rattle.line.specs.Rest.{judge, timer}
 use Rattle.line.specs.Division.{feed, divide, remainder, check, word, fits, byteOf}
@@ -22,14 +21,7 @@ use Rattle.line.specs.Entries.{Kind, Entry, entry}
 use Rattle.line.specs.Slave
 use Rattle.line.specs.Chain
 use Rattle.line.specs.Reader
-
--- A slave whose register 44 holds a value, the rest 0, with the same right everywhere.
-with44 : (value right : ℕ) → Memory
-with44 value right =
-    record { registers = set (replicate registerCount 0) 0x44 value; rights = replicate registerCount right }
-
-one : (right : ℕ) → List Memory
-one right = with44 0x5A right ∷ []
+use Rattle.line.proofs.Drawn.{holding, one}
 
 flip : ℕ → List Bool → List Bool
 flip zero [] = []
@@ -75,9 +67,9 @@ samples =
     ∷ sample (one 3) (rowFor (read 0 0x44 1)) [] (locked ∷ entry Kind.read 44 0 68 90 ∷ [])
     ∷ sample (one 3) (drop 1 reading) [] []
     -- two slaves: the far one is ID 0
-    ∷ sample (with44 0x5A 3 ∷ with44 0x11 3 ∷ []) reading []
+    ∷ sample (holding 0x44 0x5A 3 ∷ holding 0x44 0x11 3 ∷ []) reading []
     (entry Kind.lock 23 0 0 2 ∷ entry Kind.read 44 0 68 90 ∷ ended)
-    ∷ sample (with44 0x5A 3 ∷ with44 0x11 3 ∷ []) (rowFor (read 1 0x44 1)) []
+    ∷ sample (holding 0x44 0x5A 3 ∷ holding 0x44 0x11 3 ∷ []) (rowFor (read 1 0x44 1)) []
     (entry Kind.lock 23 0 0 2 ∷ entry Kind.read 44 1 68 17 ∷ [])
     -- IDL2 is 1 after IDL1 was 0
     ∷ sample (one 3) reading (17 ∷ []) (entry Kind.lockodd 23 0 0 0 ∷ ended)
@@ -112,5 +104,5 @@ samples =
     ∷ []
 
 samples-hold : map listed samples ≡ map (λ s. s .shows) samples
-unfolding samples sample listed flips flip reading writing locked ended with44 one rowFor frameOf readBytes writeBytes word check remainder divide feed bit bits push fits byteOf header allows holds stored judge timer Slave.lock Slave.called Slave.more Slave.speak Slave.step Chain.pass Chain.answers Chain.switchedOn Chain.answersFrom Reader.seen Reader.locked Reader.headed Reader.asked Reader.look Reader.step Reader.columns Reader.entries Reader.listFrom
+unfolding samples sample listed flips flip reading writing locked ended holding one rowFor frameOf readBytes writeBytes word check remainder divide feed bit bits push fits byteOf header allows holds stored judge timer Slave.lock Slave.called Slave.more Slave.speak Slave.step Chain.pass Chain.answers Chain.switchedOn Chain.answersFrom Reader.seen Reader.locked Reader.headed Reader.asked Reader.look Reader.step Reader.columns Reader.entries Reader.listFrom
 samples-hold = refl

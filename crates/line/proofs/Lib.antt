@@ -1,6 +1,7 @@
 -- What is proved of the definitions: first what is computed, then the laws, each module named for what it holds; last what the
 -- proofs of every crate use.
 pub mod Card
+pub mod Drawn
 pub mod Cases
 pub mod Division
 pub mod Words
