@@ -1,1 +1,1 @@
-// nothing yet
+// No code: this crate is definitions (specs/) and theorems about them (proofs/) alone.
