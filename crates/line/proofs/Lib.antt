@@ -19,6 +19,7 @@ pub mod Memories
 pub mod Addressed
 pub mod Sim
 pub mod Whole
+pub mod Zeros
 pub mod Twins
 pub mod Honest
 pub mod Demands
