@@ -20,6 +20,7 @@ pub mod Addressed
 pub mod Sim
 pub mod Whole
 pub mod Zeros
+pub mod Walk
 pub mod Twins
 pub mod Honest
 pub mod Demands

@@ -53,7 +53,7 @@ module _ (ks : List Memory) (bs : Bytes ks) (c : ℕ) where
       }
 
   -- One column, with the fourteenth zero judged first.
-  move : {a : Timed Account.Phase} {f : ℕ → Timed Slave.Phase} {r : Timed Reader.Phase} → Together ks a f r → (m : Bool)
+  pub move : {a : Timed Account.Phase} {f : ℕ → Timed Slave.Phase} {r : Timed Reader.Phase} → Together ks a f r → (m : Bool)
       → Next ks f m (Account.step c ks a m) (λ x. Reader.step c r m x)
   unfolding Account.step Reader.step Slave.step judge put
   move (waiting z) m =
