@@ -1,21 +1,25 @@
 -- What is promised of the definitions, in the words of paper 01 and of its demand 3, each with the modules that prove it. They speak of
 -- chains of any length and rows of any length. Assumes nothing.
 use mathlib.Core.Path.{_≡_, sym, _∙_}
-use mathlib.Core.Bool.{Bool, false}
-use mathlib.Core.List.{List, []}
-use Prim.Native.Nat.{ℕ, _+_}
+use mathlib.Core.Bool.{Bool, true, false}
+use mathlib.Core.List.{List, [], _∷_, _++_}
+use Prim.Native.Nat.{ℕ, suc, _+_, _^_, _<_}
 use native.Mathlib.Omega.{arith}
-use lib.ListN.{take, drop, replicate}
+use lib.ListN.{length, take, drop, replicate}
 use Rattle.line.specs.Limits.{restZeros}
 use Rattle.line.specs.Rest.{Timed, rest, powerOn}
+use Rattle.line.specs.Division.{dataBits}
 use Rattle.line.specs.Memory.{Memory}
 use Rattle.line.specs.Slave.{Slave}
 use Rattle.line.specs.Chain.{switchedOn, answersFrom, memoriesAfter}
 use Rattle.line.specs.Chain
+use Rattle.line.specs.Building.{read, write, command, rowFor}
+use Rattle.line.specs.Entries.{Kind}
 use Rattle.line.specs.Reader.{Phase, Column, columns, listFrom, begun}
 use Rattle.line.specs.Reader
 use Rattle.line.specs.Account.{account}
 use Rattle.line.specs.Replay.{replay, Shows}
+use Rattle.line.specs.Understood.{listed, Allowed, lockShown, commandShown, bytesShown, standing, closing}
 use Rattle.line.specs.Runs.{Zeros, FirstRun, NoRun, fromColumn}
 use Rattle.line.proofs.Rest.{fourteen}
 use Rattle.line.proofs.Every.{Every}
@@ -23,6 +27,7 @@ use Rattle.line.proofs.Memories.{Bytes}
 use Rattle.line.proofs.Late.{masters, masters-drop, rests, from-run, from-first, none-later, sleeps}
 use Rattle.line.proofs.Rows.{soon-after, all-soon}
 use Rattle.line.proofs.Whole.{run}
+use Rattle.line.proofs.Understood.{read-shown, write-shown, command-shown}
 use Rattle.line.proofs.Twins.{Alike, twins, same-answers}
 use Rattle.line.proofs.Honest.{Sound, fair-along}
 
@@ -38,6 +43,25 @@ replay-is-final ks row bs = rw (run ks row bs .list) (run ks row bs .replayed)
 -- Each read in the list shows the byte that stood there then: in the replay of the entries before it.
 pub reads-show : (ks : List Memory) (row : List Bool) → Bytes ks → Shows ks (listFrom 0 (columns row (answersFrom ks row)))
 reads-show ks row bs = rw (run ks row bs .list) (run ks row bs .shown)
+
+-- A built read is understood: of a chain that holds the ID and allows the access at each address, the list is `lock`, a `read` of each
+-- byte that stands there, in its last check column, and in the last P `closed` exactly if the slave would not go on ..
+pub read-understood : (ks : List Memory) (k : Memory) (id address n : ℕ) → Bytes ks → Allowed ks k false id address (suc n)
+    → listed ks (rowFor (read id address (suc n)))
+    ≡ lockShown ks ∷ bytesShown Kind.read id address 0 (standing k address (suc n)) ++ closing k false id address n
+read-understood ks k id address n bs a = list-is-account ks _ bs ∙ read-shown ks bs k id address n a
+
+-- .. a built write alike, with `written` and the bytes lent ..
+pub write-understood : (ks : List Memory) (k : Memory) (id address v : ℕ) (vs : List ℕ) → Bytes ks
+    → Allowed ks k true id address (length (v ∷ vs)) → Every (λ b. b < 2 ^ dataBits) (v ∷ vs)
+    → listed ks (rowFor (write id address (v ∷ vs)))
+    ≡ lockShown ks ∷ bytesShown Kind.written id address 0 (v ∷ vs) ++ closing k true id address (length vs)
+write-understood ks k id address v vs bs a h = list-is-account ks _ bs ∙ write-shown ks bs k id address v vs a h
+
+-- .. and of a built command the list is `lock` and `command`, whatever the chain.
+pub command-understood : (ks : List Memory) (ids cmd : ℕ) → Bytes ks → ids < 2 ^ 8 → cmd < 2 ^ 2
+    → listed ks (rowFor (command ids cmd)) ≡ lockShown ks ∷ commandShown ids cmd ∷ []
+command-understood ks ids cmd bs h k = list-is-account ks _ bs ∙ command-shown ks bs ids cmd h k
 
 -- A reader let in at column k lists of any columns what the whole list has after the first run of fourteen master zeros that lies
 -- wholly at or after k ..

@@ -21,6 +21,7 @@ pub mod Sim
 pub mod Whole
 pub mod Zeros
 pub mod Walk
+pub mod Understood
 pub mod Twins
 pub mod Honest
 pub mod Demands

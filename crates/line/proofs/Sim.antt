@@ -132,7 +132,7 @@ beq-same : (b : Bool) → Bool·beq b b ≡ true
 beq-same true = refl
 beq-same false = refl
 
-beq-not : (b : Bool) → Bool·beq (not b) b ≡ false
+pub beq-not : (b : Bool) → Bool·beq (not b) b ≡ false
 beq-not true = refl
 beq-not false = refl
 

@@ -20,6 +20,7 @@ pub mod Entries
 pub mod Reader
 pub mod Account
 pub mod Replay
+pub mod Understood
 pub mod Runs
 pub mod Text
 pub mod Channels
