@@ -1,11 +1,11 @@
 -- What is left of some bytes, one byte on; each byte of bytes that are not above a limit; rows of bits. Assumes nothing.
 use mathlib.Core.Path.{_≡_, refl}
-use mathlib.Core.Bool.{Bool, true, false}
+use mathlib.Core.Bool.{Bool, true, false, _&&_, and-true, and-assoc}
 use mathlib.Core.List.{List, [], _∷_, map}
 use Prim.Native.Nat.{ℕ, zero, suc, _+_, _≤_, _<_}
 use native.Mathlib.Numerals.{add-one}
 use native.Mathlib.Omega.{arith}
-use borrow.Author.Tests.{le-leb, lt-leb, leb-true}
+use borrow.Author.Tests.{leb-true}
 use lib.Dec.{leb}
 use lib.ListN.{length, drop, getD, drop-of-length-le}
 use lib.Seq.{drop-cons}
@@ -13,21 +13,17 @@ use Rattle.line.specs.Bits.{num}
 use Rattle.line.proofs.Text.{Bits, both}
 use Rattle.job.specs.Outcome.{noneAbove, areBits}
 
-module _ (limit : ℕ) (bytes : List ℕ) (i : ℕ) where
-  -- A byte over the limit decides for what is left of them ..
-  pub bad-byte : i < length bytes → limit < getD bytes i 0 → noneAbove limit (drop i bytes) ≡ false
+module _ (limit : ℕ) (bytes : List ℕ) (i : ℕ) (good : Bool) where
+  -- What was found goes over the next byte to what is left behind it ..
+  pub one-byte : i < length bytes
+      → good && leb (getD bytes i 0) limit && noneAbove limit (drop (i + 1) bytes) ≡ good && noneAbove limit (drop i bytes)
   unfolding noneAbove
-  bad-byte h k = rw (drop-cons bytes i 0 h, lt-leb (getD bytes i 0) limit k)
+  one-byte h = rw (and-assoc, add-one, drop-cons bytes i 0 h)
 
-  -- .. another leaves it to the bytes behind it ..
-  pub good-byte : i < length bytes → getD bytes i 0 ≤ limit → noneAbove limit (drop (i + 1) bytes) ≡ noneAbove limit (drop i bytes)
+  -- .. and where none are left it is the answer.
+  pub no-byte : length bytes ≤ i → good && noneAbove limit (drop i bytes) ≡ good
   unfolding noneAbove
-  good-byte h k = rw (drop-cons bytes i 0 h, le-leb (getD bytes i 0) limit k, add-one)
-
-  -- .. and where none are left nothing is bad.
-  pub no-byte : length bytes ≤ i → noneAbove limit (drop i bytes) ≡ true
-  unfolding noneAbove
-  no-byte h = rw (drop-of-length-le bytes h)
+  no-byte h = rw (drop-of-length-le bytes h, and-true)
 
 -- Where no byte is above a limit, none at any place is ..
 pub byte-at : (limit : ℕ) (bytes : List ℕ) (i : ℕ) → noneAbove limit bytes ≡ true → getD bytes i 0 ≤ limit

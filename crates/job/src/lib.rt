@@ -1,6 +1,7 @@
 // What the four jobs share: how a job ends, and the tests of lent bytes.
 ghost use mathlib.Core.Path.{_≡_};
-ghost use mathlib.Core.Bool.{true, cond};
+ghost use mathlib.Core.Bool.{true, cond, _&&_};
+ghost use lib.Dec.{leb};
 ghost use Rattle.line.specs.Text.{orElse};
 ghost use Rattle.job.specs.Outcome.{noneAbove, areBits};
 ghost use Rattle.job.specs.Rows.{rowFault, wrongRows, wrongRow};
@@ -61,16 +62,22 @@ pub fn are_bits(row: &[u8]) -> bool
     none_above(row, 1)
 }
 
-// Whether no byte is higher than `limit`.
+// Whether no byte is higher than `limit`. All are looked at, since a loop that may end early is not vectorised.
 pub fn none_above(bytes: &[u8], limit: u8) -> bool
     ensures { λ r. ⌜ r ≡ noneAbove limit (now (bytes .entry)) ⌝ }
 {
+    let mut good = true;
     let mut i = 0;
     while i < bytes.len() {
-        if limit < bytes[i] {
-            return false;
-        }
+        good = still(good, bytes[i], limit);
         i += 1;
     }
-    true
+    good
+}
+
+// Whether the bytes are good with this one too.
+fn still(good: bool, byte: u8, limit: u8) -> bool
+    ensures { λ r. ⌜ r ≡ (good && leb byte limit) ⌝ }
+{
+    if limit < byte { false } else { good }
 }
