@@ -1,10 +1,10 @@
 // The check bits of the control line: of a header's eleven bits, from a table, and of a data byte's eight, four bits at a time; words as
-// they are collected, bit by bit, and whether their check is right.
+// they are collected, bit by bit, and whether their check is right, four bits at a time for both.
 mod table;
 
 ghost use mathlib.Core.Path.{_≡_};
 ghost use Prim.Native.Nat.{_<_};
-ghost use Rattle.line.specs.Division.{headerBits, dataBits, checkWidth, remainder, check, fits};
+ghost use Rattle.line.specs.Division.{headerBits, dataBits, checkWidth, polynomial, divide, check, fits};
 ghost use Rattle.line.specs.Bits.{push};
 use table::CHECKS;
 
@@ -18,27 +18,31 @@ pub fn header_check(word: u16) -> u8
     at((word % 2048) as usize)
 }
 
-// The four check bits that follow a data byte: what remains of its high four bits goes into its low four.
+// The four check bits that follow a data byte: its high four bits divided, then its low four.
 pub fn byte_check(value: u8) -> u8
     ensures { λ r. ⌜ r ≡ check dataBits value ⌝ }
 {
-    let high = four(value / 16);
-    15 - four(high ^ value % 16)
+    let high = four(0, value as u64 / 16);
+    15 - four(high, value as u64) as u8
 }
 
-// What remains of the lowest four bits of a number.
-fn four(bits: u8) -> u8
-    ensures { λ r. ⌜ (r ≡ remainder checkWidth bits) × (r < 16) ⌝ }
+// What remains with four bits more, the lowest of a number: what remained before them goes into them.
+fn four(before: u64, bits: u64) -> u64
+    requires { ⌜ before < 16 ⌝ }
+    ensures { λ r. ⌜ (r ≡ divide checkWidth polynomial checkWidth bits before) × (r < 16) ⌝ }
 {
-    let place = 4 * (bits % 16) as u64;
-    ((REMAINDERS >> place) % 16) as u8
+    let place = 4 * ((before ^ bits) % 16);
+    (REMAINDERS >> place) % 16
 }
 
-// Whether the last four bits of a header's fifteen are the check bits of the eleven before them.
+// Whether the last four bits of a header's fifteen are the check bits of the eleven before them, which are three, four and four.
 pub fn header_fits(word: u64) -> bool
     ensures { λ r. ⌜ r ≡ fits headerBits word ⌝ }
 {
-    word % 16 == header_check((word / 16 % 2048) as u16) as u64
+    let value = word / 16;
+    let high = four(0, value / 256 % 8);
+    let middle = four(high, value / 16);
+    word % 16 == 15 - four(middle, value)
 }
 
 // Whether the last four bits of a byte's twelve are the check bits of the eight before them.

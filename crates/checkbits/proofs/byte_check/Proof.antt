@@ -1,6 +1,9 @@
--- `checkbits::byte_check` meets its contract: a byte's division is that of its two fours. Assumes nothing.
+-- `checkbits::byte_check` meets its contract: a byte's eight bits are four and four. Assumes nothing.
+use mathlib.Core.Path.{ap}
+use Prim.Native.Nat.{ℕ, _-_}
 use borrow.Author.Needs.{needs}
-use Rattle.checkbits.proofs.Fours.{two-fours}
+use Rattle.line.specs.Division.{check, remainder}
+use Rattle.checkbits.proofs.Fours.{four-more}
 use Rattle.checkbits.proofs.byte_check.Statement.{statement}
 use Rattle.checkbits.proofs.byte_check.Tie as tie
 
@@ -10,12 +13,17 @@ four-requires c κs = search needs
 four-requires-2 : tie.Need-four-requires-2
 four-requires-2 c κs = search needs
 
+cast-result : tie.Need-cast-result
+cast-result c = search needs
+
 sub-result : tie.Need-sub-result
 sub-result c = search needs
 
 returns : tie.Need-returns
+unfolding check remainder
 returns c =
-    rw (c .four2 .ensures .0, c .before .four .ensures .0) (two-fours (c .before .before .args .value) (search needs))
+    rw (c .four2 .ensures .0, c .before .four .ensures .0)
+    (ap (λ (r : ℕ). 15 - r) (four-more 4 (c .before .before .args .value)))
 
 pub byte-check-spec : {M : Type 1} → statement M
-byte-check-spec = tie.close (tie.spec four-requires four-requires-2 sub-result returns)
+byte-check-spec = tie.close (tie.spec four-requires four-requires-2 cast-result sub-result returns)

@@ -1,12 +1,9 @@
--- `checkbits::four` meets its contract: the remainder stands at its place. Assumes nothing.
+-- `checkbits::four` meets its contract: what remains stands at its place. Assumes nothing.
 use native.Mathlib.Omega.{arith}
 use borrow.Author.Needs.{needs}
 use Rattle.checkbits.proofs.Fours.{four-at}
 use Rattle.checkbits.proofs.four.Statement.{statement}
 use Rattle.checkbits.proofs.four.Tie as tie
-
-cast-place : tie.Need-cast-place
-cast-place c = search needs
 
 mul-place : tie.Need-mul-place
 mul-place c = search needs
@@ -14,11 +11,8 @@ mul-place c = search needs
 shr-result : tie.Need-shr-result
 shr-result c = search needs
 
-cast-result : tie.Need-cast-result
-cast-result c = search needs
-
 returns : tie.Need-returns
-returns c = (four-at _, omega arith)
+returns c = (four-at _ _ (c .pre), omega arith)
 
 pub four-spec : {M : Type 1} → statement M
-four-spec = tie.close (tie.spec cast-place mul-place shr-result cast-result returns)
+four-spec = tie.close (tie.spec mul-place shr-result returns)

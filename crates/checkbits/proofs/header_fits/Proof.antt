@@ -1,22 +1,32 @@
--- `checkbits::header_fits` meets its contract: the check of eleven bits looks at eleven bits alone. Assumes nothing.
+-- `checkbits::header_fits` meets its contract: a header's eleven bits are three, four and four. Assumes nothing.
+use mathlib.Core.Path.{ap}
+use Prim.Native.Nat.{ℕ, _-_, _/_, _%_}
 use borrow.Author.Needs.{needs}
-use Rattle.line.proofs.Division.{check-low}
-use Rattle.line.specs.Division.{headerBits, fits}
+use lib.Dec.{eqb}
+use Rattle.line.specs.Division.{check, remainder, fits}
+use Rattle.checkbits.proofs.Fours.{three-fours}
 use Rattle.checkbits.proofs.header_fits.Statement.{statement}
 use Rattle.checkbits.proofs.header_fits.Tie as tie
 
-cast-header-check : tie.Need-cast-header-check
-cast-header-check c = search needs
+four-requires : tie.Need-four-requires
+four-requires c κs = search needs
 
-header-check-requires : tie.Need-header-check-requires
-header-check-requires c κs = search needs
+four-requires-2 : tie.Need-four-requires-2
+four-requires-2 c κs = search needs
 
-cast-result : tie.Need-cast-result
-cast-result c = search needs
+four-requires-3 : tie.Need-four-requires-3
+four-requires-3 c κs = search needs
+
+sub-result : tie.Need-sub-result
+sub-result c = search needs
 
 returns : tie.Need-returns
-unfolding fits
-returns c = rw (c .header-check .ensures, check-low headerBits)
+unfolding fits check remainder
+returns c =
+    let word = c .before .before .before .args .word in
+    rw (c .four3 .ensures .0, c .before .four2 .ensures .0, c .before .before .four .ensures .0)
+    (ap (λ (r : ℕ). eqb (word % 16) (15 - r)) (three-fours (word / 16)))
 
 pub header-fits-spec : {M : Type 1} → statement M
-header-fits-spec = tie.close (tie.spec cast-header-check header-check-requires cast-result returns)
+header-fits-spec =
+    tie.close (tie.spec four-requires four-requires-2 four-requires-3 sub-result returns)
