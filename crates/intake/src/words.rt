@@ -12,7 +12,9 @@ pub fn help() {
         && say(b"On a refusal only: `refused` TAB its number: 5 more than 4,096 columns,\n")
         && say(b"8 opening column past the rows, 11 a bad line, TAB the first one, from 1.\n")
         && say(b"From an opening column on, entries are listed after the first fourteen\n")
-        && say(b"zeros of the master: nothing before them can be told for certain.\n");
+        && say(b"zeros of the master: nothing before them can be told for certain.\n")
+        && say(b"bin/index ends with status 0 after a list or this text, with 1 after a\n")
+        && say(b"refusal, with 2 where there is no answer: standard error then says why.\n");
     if !written {
         not_written();
     }
