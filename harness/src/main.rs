@@ -35,7 +35,8 @@ harness watch FIRST N     N cases on one thread, each seed printed before it
 harness bench             times model against library
 harness programs [write]  the files of the indexing program's crates held to the
                           model, or written
-harness index PROGRAM N   the linked program on the texts of N seeds
+harness index PROGRAM N   the linked program on the named inputs and on the texts
+                          of N seeds
 harness selftest          the bench card on the model
 harness --help            this text
 

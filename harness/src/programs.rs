@@ -1,5 +1,6 @@
-//! The indexing program: the program crates that show it, each with what it
-//! reads and prints, and the linked program on texts from seeds.
+//! The indexing program: the inputs it is tried on by name, with the program
+//! crates that hold some of them, and the linked program on these and on texts
+//! from seeds.
 
 use crate::generate::{self, Random};
 use crate::model::{build_read, build_write, index, rows_to_text, run, Outcome::Made};
@@ -8,31 +9,43 @@ use std::io::Write;
 use std::path::{Path, PathBuf};
 use std::process::{Command, Stdio};
 
-/// One program crate: its folder under crates/, the words it is started with,
-/// and its standard input.
-struct Program {
-    name: &'static str,
-    args: &'static str,
+/// One input: its name, the opening column that the program is started with, if
+/// any, and its standard input.
+struct Input {
+    name: String,
+    opening: Option<usize>,
     stdin: Vec<u8>,
 }
 
 const READ_COLUMNS: usize = 46;
 const LIMIT: usize = 4096;
 
-fn programs() -> Vec<Program> {
-    let program = |name, args, stdin| Program { name, args, stdin };
+fn input(name: &str, opening: Option<usize>, stdin: Vec<u8>) -> Input {
+    Input { name: name.to_string(), opening, stdin }
+}
+
+/// The inputs that program crates hold, for rt to run; their names are the
+/// crates'.
+fn held() -> Vec<Input> {
     vec![
-        program("index", "", text(&bench_row(14, 1))),
-        program("index_without_end", "", text(&bench_row(14, 0))),
-        program("index_thirteen_zeros", "", text(&bench_row(13, 14))),
-        program("index_bad_byte", "", spoiled(text(&busy_row(LIMIT)), 812)),
-        program("index_empty", "", Vec::new()),
-        program("index_header_alone", "", text(&[])),
-        program("index_longest", "", text(&busy_row(LIMIT))),
-        program("index_too_long", "", lines(LIMIT + 1)),
-        program("index_bad_behind", "", spoiled(lines(20_000), 15_000)),
-        program("index_mid_frame", "30", text(&[bench_row(14, 14), bench_row(14, 1)].concat())),
-        program("index_past_the_end", "48", text(&bench_row(14, 1))),
+        input("index", None, text(&bench_row(14, 1))),
+        input("index_bad_byte", None, spoiled(text(&busy_row(LIMIT)), 812)),
+        input("index_bad_behind", None, spoiled(lines(20_000), 15_000)),
+    ]
+}
+
+/// The inputs that the linked program alone is tried on.
+fn named() -> Vec<Input> {
+    let two_frames = [bench_row(14, 14), bench_row(14, 1)].concat();
+    vec![
+        input("the card's run, its last column off: no end", None, text(&bench_row(14, 0))),
+        input("thirteen zeros before S: nobody is at rest", None, text(&bench_row(13, 14))),
+        input("an empty input", None, Vec::new()),
+        input("a header alone: rows of no columns", None, text(&[])),
+        input("4,096 columns", None, text(&busy_row(LIMIT))),
+        input("4,097 columns", None, lines(LIMIT + 1)),
+        input("opened in the middle of a frame", Some(30), text(&two_frames)),
+        input("an opening column past the end", Some(48), text(&bench_row(14, 1))),
     ]
 }
 
@@ -86,27 +99,75 @@ fn spoiled(mut text: Vec<u8>, line: usize) -> Vec<u8> {
     text
 }
 
-impl Program {
-    fn opening(&self) -> usize {
-        if self.args.is_empty() { 0 } else { self.args.parse().expect("an opening column") }
+impl Input {
+    /// The text of a seed, and an opening column that is 0 said or not.
+    fn from_seed(seed: u64, random: &mut Random) -> Input {
+        let (stdin, column) = generate::recorded_text(random);
+        let opening = (column > 0 || random.one_in(2)).then_some(column);
+        Input { name: format!("the text of seed {seed}"), opening, stdin }
     }
 
-    /// The files beside the crate's sources; none where it would be empty.
+    /// What the program has to print.
+    fn answer(&self) -> Vec<u8> {
+        index(&self.stdin, self.opening.unwrap_or(0))
+    }
+
+    /// The files beside a program crate's sources; none where it would be empty.
     fn files(&self, crates: &Path) -> Vec<(PathBuf, Vec<u8>)> {
-        let folder = crates.join(self.name);
-        let args = if self.args.is_empty() { String::new() } else { format!("{}\n", self.args) };
-        let stdout = index(&self.stdin, self.opening());
+        let folder = crates.join(&self.name);
+        let args = self.opening.map_or(String::new(), |column| format!("{column}\n"));
         vec![
             (folder.join("stdin"), self.stdin.clone()),
             (folder.join("args"), args.into_bytes()),
-            (folder.join("stdout"), stdout),
+            (folder.join("stdout"), self.answer()),
         ]
+    }
+
+    /// What the linked program prints, the input written in pieces of any
+    /// size, and the status that it ends with.
+    fn given_to(&self, program: &str, random: &mut Random) -> (Vec<u8>, Option<i32>) {
+        let mut child = Command::new(program)
+            .args(self.opening.map(|column| column.to_string()))
+            .stdin(Stdio::piped())
+            .stdout(Stdio::piped())
+            .spawn()
+            .expect("the indexing program starts");
+        let mut stdin = child.stdin.take().expect("a pipe");
+        let mut rest = self.stdin.as_slice();
+        while !rest.is_empty() {
+            let any = random.between(1, 20_000);
+            let (piece, behind) = rest.split_at(random.pick(&[1, 7, 4096, any]).min(rest.len()));
+            // A program that has its answer need not read on.
+            if stdin.write_all(piece).is_err() {
+                break;
+            }
+            rest = behind;
+        }
+        drop(stdin);
+        let ended = child.wait_with_output().expect("the indexing program ends");
+        (ended.stdout, ended.status.code())
+    }
+
+    /// Whether the linked program prints what the model says and ends with 1
+    /// after a refusal, with 0 after a list.
+    fn agrees(&self, program: &str, random: &mut Random) -> bool {
+        let answer = self.answer();
+        let status = i32::from(answer.starts_with(b"refused"));
+        let (printed, ended) = self.given_to(program, random);
+        if printed == answer && ended == Some(status) {
+            return true;
+        }
+        let Input { name, opening, stdin } = self;
+        println!("DIFFERENCE, {name}, opening column {opening:?}, {} bytes:", stdin.len());
+        println!("model:   status {status}, {}", String::from_utf8_lossy(&answer));
+        println!("program: status {ended:?}, {}", String::from_utf8_lossy(&printed));
+        false
     }
 }
 
 /// Writes the files of every program crate.
 pub fn write(crates: &Path) -> bool {
-    for (path, bytes) in programs().iter().flat_map(|program| program.files(crates)) {
+    for (path, bytes) in held().iter().flat_map(|input| input.files(crates)) {
         if bytes.is_empty() {
             let _ = fs::remove_file(&path);
         } else {
@@ -118,58 +179,27 @@ pub fn write(crates: &Path) -> bool {
 
 /// Whether every program crate reads and prints what the model says.
 pub fn agree(crates: &Path) -> bool {
-    let programs = programs();
-    let files: Vec<_> = programs.iter().flat_map(|program| program.files(crates)).collect();
-    let wrong: Vec<_> = files
-        .iter()
-        .filter(|(path, bytes)| fs::read(path).unwrap_or_default() != *bytes)
-        .collect();
+    let files: Vec<_> = held().iter().flat_map(|input| input.files(crates)).collect();
+    let wrong: Vec<_> =
+        files.iter().filter(|(path, bytes)| fs::read(path).unwrap_or_default() != *bytes).collect();
     wrong.iter().for_each(|(path, _)| println!("PROGRAM {} is not the model's", path.display()));
     println!("program crates: {} files as the model has them, {} not", files.len(), wrong.len());
     wrong.is_empty()
 }
 
-/// What the linked program prints, its input written in pieces of any size.
-fn printed(program: &str, random: &mut Random, text: &[u8], opening: usize) -> Vec<u8> {
-    let mut command = Command::new(program);
-    if opening > 0 || random.one_in(2) {
-        command.arg(opening.to_string());
-    }
-    let mut child = command
-        .stdin(Stdio::piped())
-        .stdout(Stdio::piped())
-        .spawn()
-        .expect("the indexing program starts");
-    let mut stdin = child.stdin.take().expect("a pipe");
-    let mut rest = text;
-    while !rest.is_empty() {
-        let any = random.between(1, 20_000);
-        let (piece, behind) = rest.split_at(random.pick(&[1, 7, 4096, any]).min(rest.len()));
-        // A program that has its answer need not read on.
-        if stdin.write_all(piece).is_err() {
-            break;
-        }
-        rest = behind;
-    }
-    drop(stdin);
-    child.wait_with_output().expect("the indexing program ends").stdout
-}
-
-/// Whether the linked program prints what the model says, for the texts of
-/// so many seeds.
+/// Whether the linked program agrees with the model on the inputs with a name
+/// and on the texts of so many seeds.
 pub fn linked(program: &str, texts: u64) -> bool {
-    for seed in 0..texts {
-        let mut random = Random::from_seed(seed);
-        let (text, opening) = generate::recorded_text(&mut random);
-        let expected = index(&text, opening);
-        let printed = printed(program, &mut random, &text, opening);
-        if printed != expected {
-            println!("DIFFERENCE at seed {seed}, opening column {opening}, {} bytes:", text.len());
-            println!("model:   {}", String::from_utf8_lossy(&expected));
-            println!("program: {}", String::from_utf8_lossy(&printed));
-            return false;
-        }
+    let mut random = Random::from_seed(0);
+    let inputs: Vec<_> = held().into_iter().chain(named()).collect();
+    let good = inputs.iter().all(|input| input.agrees(program, &mut random))
+        && (0..texts).all(|seed| {
+            let mut random = Random::from_seed(seed);
+            Input::from_seed(seed, &mut random).agrees(program, &mut random)
+        });
+    if good {
+        let named = inputs.len();
+        println!("indexing program: {named} inputs, {texts} texts from seed 0, no difference");
     }
-    println!("indexing program: {texts} texts from seed 0, no difference");
-    true
+    good
 }

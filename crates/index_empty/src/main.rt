@@ -1,4 +1,0 @@
-// The indexing program: an empty input.
-fn main() {
-    intake::index();
-}
