@@ -1,6 +1,6 @@
 /* A master writes 5B to register 44 (hexadecimal) of the only slave of a chain; what was recorded is read back as a list and printed,
- * and carried to text and back. One text and one call are refused. Every answer is checked: the program ends with 1 where one is not as
- * expected. */
+ * and carried to text and back. One text and one call are refused. Then channel places in a chain of three. Every answer is checked: the
+ * program ends with 1 where one is not as expected. */
 #include "../include/biss.h"
 
 #include <stdio.h>
@@ -81,6 +81,8 @@ int main(void) {
     carry_rows(cdm, cds, columns);
     refused_run(cdm, columns, registers, rights);
     expect(biss_run(0, NULL, 0, NULL, 0, cdm, columns, cds, columns) == columns, "a chain of no slaves is a chain");
+    expect(biss_channel_of(0, 3) == 3 && biss_channel_of(2, 3) == 1, "the far slave of three has the third channel");
+    expect(biss_channel_of(3, 3) == 0 && biss_refusal(biss_channel_of(8, 3)) == 10, "no slave has ID 3 there, and no chain ID 8");
     free(row), free(cdm), free(cds), free(registers), free(rights);
     return 0;
 }

@@ -1,10 +1,10 @@
 //! A master writes 5B to register 44 (hexadecimal) of the only slave of a chain; what was recorded is read back as a list and printed,
-//! and carried to text and back. One text and one call are refused. Every answer is asserted.
+//! and carried to text and back. One text and one call are refused. Then channel places in a chain of three. Every answer is asserted.
 
 #[path = "../include/biss.rs"]
 #[allow(dead_code)]
 mod biss;
-use biss::Refusal;
+use biss::{ChannelPlace, Refusal};
 
 fn main() {
     let mut row = [0; 4096];
@@ -38,4 +38,8 @@ fn main() {
     let refused = biss::run(1, &rights, &mut registers, cdm, &mut cds);
     assert_eq!(refused, Err(Refusal::Number(4)));
     println!("a right above 3: refusal 4");
+
+    assert_eq!(biss::channel_of(0, 3), Ok(Some(ChannelPlace(3))));
+    assert_eq!(biss::channel_of(3, 3), Ok(None));
+    assert_eq!(biss::channel_of(8, 3), Err(Refusal::Number(10)));
 }

@@ -38,7 +38,8 @@ uint64_t biss_build_read(uint8_t id, uint8_t address, size_t count, uint8_t *out
 /* Builds the master row of a write of `bytes` to the registers of the slave `id`, from `address` on. Refusals 10, 9. */
 uint64_t biss_build_write(uint8_t id, uint8_t address, const uint8_t *bytes, size_t bytes_length, uint8_t *out, size_t out_length);
 
-/* Builds the master row of the command `cmd` to the slaves whose bits are set in `ids`. Refusals 10, 9. */
+/* Builds the master row of the command `cmd` to the slaves whose bits are set in `ids`: the highest bit, 0x80, is the slave with ID 0,
+ * the lowest the one with ID 7. With `ids` 0 it is a broadcast, to every slave. Refusals 10, 9. */
 uint64_t biss_build_command(uint8_t ids, uint8_t cmd, uint8_t *out, size_t out_length);
 
 /* Runs a chain of slaves from power-on over the master row `cdm`: the answers go into `cds`, which is as long as `cdm`, and the
@@ -64,5 +65,9 @@ uint64_t biss_text_to_rows(const uint8_t *text, size_t text_length, uint8_t *cdm
 /* Prints a list, as biss_read makes it, as text into the first bytes of `out`: a header of 30 bytes, and then an entry a line, at most
  * 27 bytes, the kind by its name. Refusals 12, 9. */
 uint64_t biss_list_to_text(const uint8_t *list, size_t list_length, uint8_t *out, size_t out_length);
+
+/* The channel place of the process data of the slave `id` in a chain of so many slaves: 1 is the slave next to the master, and so the one
+ * with the highest ID; 0 where the chain has no slave of that ID. Refusals 1, 10. */
+uint64_t biss_channel_of(uint8_t id, size_t slaves);
 
 #endif

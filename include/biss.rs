@@ -83,8 +83,13 @@ mod calls {
             out: *mut u8,
             out_length: usize,
         ) -> u64;
+        pub fn biss_channel_of(id: u8, slaves: usize) -> u64;
     }
 }
+
+/// The place of a slave's process data, from 1, next to the master. It is no slave ID, which counts from the far end.
+#[derive(Clone, Copy, PartialEq, Eq, Debug)]
+pub struct ChannelPlace(pub u8);
 
 const REFUSED: u64 = 1 << 63;
 const LINE: u64 = 1 << 62;
@@ -187,4 +192,10 @@ pub fn list_to_text(list: &[u8], out: &mut [u8]) -> Answer {
     answer(unsafe {
         calls::biss_list_to_text(list.as_ptr(), list.len(), out.as_mut_ptr(), out.len())
     })
+}
+
+/// `None` where the chain has no slave of that ID.
+pub fn channel_of(id: u8, slaves: usize) -> Result<Option<ChannelPlace>, Refusal> {
+    let place = answer(unsafe { calls::biss_channel_of(id, slaves) })?;
+    Ok((place != 0).then_some(ChannelPlace(place as u8)))
 }

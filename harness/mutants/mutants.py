@@ -126,6 +126,8 @@ MUTANTS = [
     ("list: dash for 0", "list.rs", "if is_named {", "if is_named && value != 0 {"),
     ("list: column low first", "list.rs", "usize::from(entry[1]) << 8 | usize::from(entry[2])", "usize::from(entry[2]) << 8 | usize::from(entry[1])"),
     ("list: closed has a value", "entry.rs", 'form("closed", true, true, false)', 'form("closed", true, true, true)'),
+    ("channels like IDs", "channel.rs", "(0..slaves).rev()", "0..slaves"),
+    ("ID 8 has a channel", "channel.rs", "id > 7", "id > 8"),
     ("pair keeps listening", "reader.rs", "Entry::of(Kind::Pair)\n", "return Some(Entry::of(Kind::Pair).place(id, address))\n"),
 ]
 

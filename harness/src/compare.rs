@@ -2,9 +2,10 @@
 
 use crate::case::{call_library, call_model, Case, Job};
 use crate::checks;
+use crate::library;
 use crate::model::entry::ENTRY_BYTES;
-use crate::model::list_to_text;
 use crate::model::Outcome::{self, Made};
+use crate::model::{channel_of, list_to_text};
 
 /// Bytes around each lent slice that nobody may touch.
 const GUARD: usize = 64;
@@ -92,6 +93,21 @@ pub fn compare(case: &Case, seed: u64) -> Result<(Outcome, Vec<u8>), String> {
     checks::check(case, model.outcome, &after, seed)?;
     let last = after.last().map_or(Vec::new(), |slice| slice.to_vec());
     Ok((model.outcome, last))
+}
+
+/// Every slave ID in chains of every length up to 300 and some far past it: how
+/// many questions there were, and the first that is answered otherwise.
+pub fn channels() -> (usize, Option<String>) {
+    let far = [1 << 8, 1 << 16, (1 << 32) + 1, usize::MAX];
+    let chains = || (0..=300).chain(far);
+    let questions = || chains().flat_map(|slaves| (0..=u8::MAX).map(move |id| (id, slaves)));
+    let wrong = questions().find_map(|(id, slaves)| {
+        let (model, library) = (channel_of(id, slaves), library::channel_of(id, slaves));
+        (model != library).then(|| {
+            format!("ID {id}, {slaves} slaves: the model says {model:?}, the library {library:?}")
+        })
+    });
+    (questions().count(), wrong)
 }
 
 /// A case and what both made of it, for a person to read.

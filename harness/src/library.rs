@@ -5,12 +5,14 @@
 
 #[cfg(not(feature = "linked"))]
 pub use crate::model::{
-    build_command, build_read, build_write, list_to_text, read, rows_to_text, run, text_to_rows,
+    build_command, build_read, build_write, channel_of, list_to_text, read, rows_to_text, run,
+    text_to_rows,
 };
 
 #[cfg(feature = "linked")]
 pub use linked::{
-    build_command, build_read, build_write, list_to_text, read, rows_to_text, run, text_to_rows,
+    build_command, build_read, build_write, channel_of, list_to_text, read, rows_to_text, run,
+    text_to_rows,
 };
 
 pub const NAME: &str = if cfg!(feature = "linked") { "library" } else { "model itself" };
@@ -22,7 +24,7 @@ mod biss;
 
 #[cfg(feature = "linked")]
 mod linked {
-    use super::biss::{self, Answer, Refusal};
+    use super::biss::{self, Answer, ChannelPlace, Refusal};
     use crate::model::Outcome::{self, BadLine, Made, Refused};
 
     fn outcome(answer: Answer) -> Outcome {
@@ -69,5 +71,10 @@ mod linked {
 
     pub fn list_to_text(list: &[u8], out: &mut [u8]) -> Outcome {
         outcome(biss::list_to_text(list, out))
+    }
+
+    pub fn channel_of(id: u8, slaves: usize) -> Outcome {
+        let place = |found: Option<ChannelPlace>| found.map_or(0, |place| usize::from(place.0));
+        outcome(biss::channel_of(id, slaves).map(place))
     }
 }

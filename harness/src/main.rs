@@ -13,7 +13,7 @@ mod programs;
 mod selftest;
 mod shrink;
 
-use compare::{compare, describe};
+use compare::{channels, compare, describe};
 use counts::Counts;
 use std::path::Path;
 use std::process::ExitCode;
@@ -27,7 +27,8 @@ const THREADS: u64 = 2;
 const CRATES: &str = "../crates";
 
 const HELP: &str = "\
-harness                   the bench card on the model, then 600,000 cases
+harness                   the bench card on the model, every channel place, then
+                          600,000 cases
 harness soak N [FIRST]    N thousand cases from seed FIRST (default 1000000)
 harness seed S            one case, shown
 harness watch FIRST N     N cases on one thread, each seed printed before it
@@ -175,10 +176,17 @@ fn selftest() -> bool {
     failed.is_empty()
 }
 
+fn channel_places() -> bool {
+    let (questions, wrong) = channels();
+    wrong.iter().for_each(|line| println!("DIFFERENCE at channel {line}"));
+    println!("channel places: {questions} questions, model against {}", library::NAME);
+    wrong.is_none()
+}
+
 /// None if the words are not understood.
 fn obey(words: &[&str]) -> Option<bool> {
     let good = match words {
-        [] => selftest() && cases(0, USUAL_CASES, true),
+        [] => selftest() && channel_places() && cases(0, USUAL_CASES, true),
         ["soak", thousands] => soak(thousands.parse().ok()?, 1_000_000),
         ["soak", thousands, first] => soak(thousands.parse().ok()?, first.parse().ok()?),
         ["seed", seed] => one_seed(seed.parse().ok()?),

@@ -3,6 +3,7 @@
 pub mod account;
 pub mod build;
 pub mod chain;
+pub mod channel;
 pub mod check;
 pub mod entry;
 pub mod frame;
@@ -16,6 +17,7 @@ pub mod text;
 
 pub use build::{build_command, build_read, build_write};
 pub use chain::run;
+pub use channel::channel_of;
 pub use index::index;
 pub use list::{list_to_text, read};
 pub use text::{rows_to_text, text_to_rows};

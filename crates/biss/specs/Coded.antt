@@ -4,6 +4,8 @@ use mathlib.Core.Path.{_≡_}
 use Prim.Native.Nat.{ℕ, _+_, _^_, _<_}
 use Rattle.job.specs.declared.Outcome.{Outcome}
 use Rattle.job.specs.declared.Outcome.the-variants as Job
+use Rattle.channels.specs.declared.Channel.{Channel}
+use Rattle.channels.specs.declared.Channel.the-variants as Channels
 use Rattle.carry.specs.declared.Taken.{Taken}
 use Rattle.carry.specs.declared.Taken.the-variants.{Columns, Refused, BadLine}
 
@@ -27,6 +29,12 @@ abbrev pub Fits : Taken → Type 0
 Fits (Columns n) = n < 2 ^ 63
 Fits (Refused k) = k < 2 ^ 62
 Fits (BadLine l) = l < 2 ^ 62
+
+-- A channel place counts from 1, so that 0 says that the chain has no slave of that ID; a refusal as of a job.
+abbrev pub channelCode : Channel → ℕ
+channelCode (Channels.Place place) = place .0
+channelCode Channels.Absent = 0
+channelCode (Channels.Refused k) = codeOf (Refused k)
 
 -- The number answered is that of an end that the job promises.
 pub record Coded {End : Type 0} (code : End → ℕ) (answer : ℕ) (Promised : End → Type 0) : Type 0 where

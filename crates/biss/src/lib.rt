@@ -1,14 +1,18 @@
 // The jobs as C and Rust call them: numbers, and a slice as a pointer and a length. Each answers one number: how many columns, bytes
-// or entries were made, or 2 ^ 63 and the number of the refusal; for a text's bad line, 2 ^ 63 + 2 ^ 62 and the line.
+// or entries were made, or 2 ^ 63 and the number of the refusal; for a text's bad line, 2 ^ 63 + 2 ^ 62 and the line. Beside them the
+// channel place of a slave.
 ghost use mathlib.Core.Path.{_≡_};
 ghost use Rattle.line.specs.Building.{Request};
+ghost use Rattle.channels.specs.Channel.{channelOf};
 ghost use Rattle.build.specs.Build.{Built};
 ghost use Rattle.run.specs.Run.{Ran};
 ghost use Rattle.read.specs.Read.{Listed};
 ghost use Rattle.carry.specs.Carry.{RowsPrinted, RowsTaken};
 ghost use Rattle.entries.specs.Lists.{ListPrinted};
-ghost use Rattle.biss.specs.Coded.{codeOf, outcomeCode, Fits, Coded};
+ghost use Rattle.biss.specs.Coded.{codeOf, outcomeCode, channelCode, Fits, Coded};
 use carry::Taken;
+use channels::Channel;
+use channels::SlaveId;
 use job::Outcome;
 
 // What a refusal's number stands on, 2 ^ 63: no count is as high.
@@ -87,6 +91,14 @@ pub extern "C" fn biss_list_to_text(list: &[u8], out: &mut [u8]) -> u64
     coded(entries::list_to_text(list, out))
 }
 
+// The place of a slave's process data in a chain of so many slaves.
+#[no_mangle]
+pub extern "C" fn biss_channel_of(id: u8, slaves: usize) -> u64
+    ensures { λ r. ⌜ r ≡ channelCode (channelOf (record { 0 = id }) slaves) ⌝ }
+{
+    coded_channel(channels::channel_of(SlaveId(id), slaves))
+}
+
 fn coded(outcome: Outcome) -> u64
     ensures { λ r. ⌜ r ≡ outcomeCode outcome ⌝ }
 {
@@ -104,5 +116,15 @@ fn coded_taken(taken: Taken) -> u64
         Taken::Columns(n) => n as u64,
         Taken::Refused(k) => REFUSED + k as u64,
         Taken::BadLine(l) => BAD_LINE + l as u64,
+    }
+}
+
+fn coded_channel(channel: Channel) -> u64
+    ensures { λ r. ⌜ r ≡ channelCode channel ⌝ }
+{
+    match channel {
+        Channel::Place(place) => place.0 as u64,
+        Channel::Absent => 0,
+        Channel::Refused(k) => REFUSED + k as u64,
     }
 }

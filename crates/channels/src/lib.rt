@@ -4,9 +4,9 @@ ghost use mathlib.Core.Path.{_≡_};
 ghost use Rattle.channels.specs.Channel.{channelOf};
 
 // The most slaves that a chain has (01, refusal 1), and the highest ID (01, refusal 10).
-const SLAVES: u8 = 16;
+const SLAVES: usize = 16;
 
-const LAST_ID: u8 = 7;
+const LAST_ID: usize = 7;
 
 // From 0, the far slave.
 pub struct SlaveId(pub u8);
@@ -22,16 +22,16 @@ pub enum Channel {
 }
 
 // The channel place of a slave in a chain of so many slaves.
-pub fn channel_of(id: SlaveId, slaves: u8) -> Channel
+pub fn channel_of(id: SlaveId, slaves: usize) -> Channel
     ensures { λ r. ⌜ r ≡ channelOf id slaves ⌝ }
 {
-    let i = id.0;
+    let i = id.0 as usize;
     if SLAVES < slaves {
         Channel::Refused(1)
     } else if LAST_ID < i {
         Channel::Refused(10)
     } else if i < slaves {
-        let place = slaves - i;
+        let place = (slaves - i) as u8;
         Channel::Place(ChannelPlace(place))
     } else {
         Channel::Absent

@@ -62,3 +62,8 @@ pub unsafe extern "C" fn biss_text_to_rows(
 pub unsafe extern "C" fn biss_list_to_text(list: *const u8, n: usize, out: *mut u8, m: usize) -> u64 {
     number(model::list_to_text(lent(list, n), lent_mut(out, m)))
 }
+
+#[no_mangle]
+pub extern "C" fn biss_channel_of(id: u8, slaves: usize) -> u64 {
+    number(model::channel_of(id, slaves))
+}
