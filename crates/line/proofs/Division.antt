@@ -1,5 +1,6 @@
 -- The check bits, proved once over the number of bits: a word with its check bits is accepted and no other four bits are; what the
--- division looks at; that leading zeros change nothing. The table that holds the header's check bits is checkbits's. Assumes nothing.
+-- division looks at, and how it goes on over bits behind others. The table that holds the header's check bits is checkbits's. Assumes
+-- nothing.
 use mathlib.Core.Logic.{_↔_}
 use mathlib.Core.Path.{_≡_, refl, sym, ap, _∙_}
 use mathlib.Core.Bool.{Bool, true, false, false≢true, Bool·beq}
