@@ -137,13 +137,11 @@ def run(command, **more):
 
 
 def make_library(file, old, new):
-    source = os.path.join(WORK, "src")
-    shutil.rmtree(source, ignore_errors=True)
-    shutil.copytree(os.path.join(HERE, "template", "src"), source)
-    shutil.copy(os.path.join(HERE, "template", "Cargo.toml"), WORK)
-    shutil.copy(os.path.join(ROOT, "src", "model.rs"), source)
-    shutil.copytree(os.path.join(ROOT, "src", "model"), os.path.join(source, "model"))
-    path = os.path.join(source, "model", file)
+    shutil.copytree(os.path.join(HERE, "template"), WORK, dirs_exist_ok=True)
+    model = os.path.join(WORK, "model")
+    shutil.rmtree(model, ignore_errors=True)
+    shutil.copytree(os.path.join(ROOT, "model"), model)
+    path = os.path.join(model, "src", file)
     text = open(path).read()
     if old not in text:
         return "its text is not there"

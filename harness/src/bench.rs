@@ -2,8 +2,7 @@
 
 use crate::generate::Random;
 use crate::library;
-use crate::model;
-use crate::model::Outcome::{self, Made};
+use model::Outcome::{self, Made};
 use std::hint::black_box;
 use std::time::Instant;
 

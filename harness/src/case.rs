@@ -1,7 +1,7 @@
 //! A case: one call of one job, with everything that is lent to it.
 
 use crate::library;
-use crate::model::{self, Outcome};
+use model::Outcome;
 
 #[derive(Clone, Copy, PartialEq, Eq, Debug)]
 pub enum Job {

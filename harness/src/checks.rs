@@ -3,13 +3,13 @@
 use crate::case::{Case, Job};
 use crate::conditions::{bad_line, conditions};
 use crate::generate::Random;
-use crate::model::account::{account, rest_after};
-use crate::model::chain::allows;
-use crate::model::entry::Entry;
-use crate::model::list::list;
-use crate::model::replay::{reads_show_what_stood, replay};
-use crate::model::Outcome::{self, BadLine, Made, Refused};
-use crate::model::{rows_to_text, run, text_to_rows};
+use model::account::{account, rest_after};
+use model::chain::allows;
+use model::entry::Entry;
+use model::list::list;
+use model::replay::{reads_show_what_stood, replay};
+use model::Outcome::{self, BadLine, Made, Refused};
+use model::{rows_to_text, run, text_to_rows};
 
 fn must(holds: bool, what: &str) -> Result<(), String> {
     if holds {

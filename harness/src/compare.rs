@@ -3,9 +3,9 @@
 use crate::case::{call_library, call_model, Case, Job};
 use crate::checks;
 use crate::library;
-use crate::model::entry::ENTRY_BYTES;
-use crate::model::Outcome::{self, Made};
-use crate::model::{channel_of, list_to_text};
+use model::entry::ENTRY_BYTES;
+use model::Outcome::{self, Made};
+use model::{channel_of, list_to_text};
 
 /// Bytes around each lent slice that nobody may touch.
 const GUARD: usize = 64;

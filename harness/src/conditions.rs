@@ -2,7 +2,7 @@
 //! must give the first of them, in the order that paper 01 writes for the job.
 
 use crate::case::{Case, Job};
-use crate::model::list::list;
+use model::list::list;
 
 /// The numbers whose condition holds, in the job's order. 9 is told only where
 /// the result is defined, or where an empty buffer is certainly too small.
@@ -105,8 +105,8 @@ fn list_to_text(case: &Case) -> Vec<(u8, bool)> {
     let bad_kind = (0..list.len() / 6).any(|n| list[6 * n] < 1 || list[6 * n] > 16);
     let bad = list.len() % 6 != 0 || bad_kind;
     let mut room = vec![0; 30 + 40 * list.len() / 6];
-    let needed = match crate::model::list_to_text(list, &mut room) {
-        crate::model::Outcome::Made(needed) => needed,
+    let needed = match model::list_to_text(list, &mut room) {
+        model::Outcome::Made(needed) => needed,
         _ => 1,
     };
     vec![(12, bad), (9, needed > out.len())]

@@ -4,11 +4,11 @@
 use crate::case::{Answers, Case, Job, JOBS};
 use crate::conditions::conditions;
 use crate::generate::marks;
-use crate::model::chain;
-use crate::model::entry::{ENTRY_BYTES, FORMS};
-use crate::model::list;
-use crate::model::phase::{Met, PHASES};
-use crate::model::Outcome::{self, BadLine, Made, Refused};
+use model::chain;
+use model::entry::{ENTRY_BYTES, FORMS};
+use model::list;
+use model::phase::{Met, PHASES};
+use model::Outcome::{self, BadLine, Made, Refused};
 use std::collections::BTreeMap;
 
 const LEAST: u64 = 100;

@@ -6,10 +6,9 @@ mod rows;
 mod texts;
 
 use crate::case::{Case, Job};
-use crate::model;
-use crate::model::entry::ENTRY_BYTES;
-use crate::model::list::list;
 use chains::{chain_and_row, chain_of, recording};
+use model::entry::ENTRY_BYTES;
+use model::list::list;
 pub use random::Random;
 use rows::long_row;
 

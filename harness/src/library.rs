@@ -4,7 +4,7 @@
 //! they go to the model, so that the comparison can be tried on itself.
 
 #[cfg(not(feature = "linked"))]
-pub use crate::model::{
+pub use model::{
     build_command, build_read, build_write, channel_of, list_to_text, read, rows_to_text, run,
     text_to_rows,
 };
@@ -25,7 +25,7 @@ mod biss;
 #[cfg(feature = "linked")]
 mod linked {
     use super::biss::{self, Answer, ChannelPlace, Refusal};
-    use crate::model::Outcome::{self, BadLine, Made, Refused};
+    use model::Outcome::{self, BadLine, Made, Refused};
 
     fn outcome(answer: Answer) -> Outcome {
         match answer {

@@ -8,7 +8,6 @@ mod conditions;
 mod counts;
 mod generate;
 mod library;
-mod model;
 mod programs;
 mod selftest;
 mod shrink;

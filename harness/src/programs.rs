@@ -3,7 +3,7 @@
 //! from seeds.
 
 use crate::generate::{self, Random};
-use crate::model::{build_read, build_write, index, rows_to_text, run, Outcome::Made};
+use model::{build_read, build_write, index, rows_to_text, run, Outcome::Made};
 use std::fs;
 use std::io::Write;
 use std::path::{Path, PathBuf};

@@ -1,11 +1,11 @@
 //! The bench card of paper 01, tried on the model.
 
-use crate::model::account::account;
-use crate::model::check::{check_bits, command_word, register_word, BYTE_BITS, HEADER_BITS};
-use crate::model::entry::{Entry, Kind, ENTRY_BYTES};
-use crate::model::list::list;
-use crate::model::Outcome::{self, BadLine, Made, Refused};
-use crate::model::{
+use model::account::account;
+use model::check::{check_bits, command_word, register_word, BYTE_BITS, HEADER_BITS};
+use model::entry::{Entry, Kind, ENTRY_BYTES};
+use model::list::list;
+use model::Outcome::{self, BadLine, Made, Refused};
+use model::{
     build_command, build_read, build_write, list_to_text, read, rows_to_text, run, text_to_rows,
 };
 

@@ -1,7 +1,7 @@
 //! Makes a failing case small.
 
 use crate::case::{Case, Job};
-use crate::model::entry::ENTRY_BYTES;
+use model::entry::ENTRY_BYTES;
 
 /// The slices of a job that get shorter together, and how many bytes at once:
 /// two rows, a text's lines, a list's entries.

@@ -3,9 +3,9 @@
 use super::random::Random;
 use super::rows::{long_access, master_row};
 use crate::case::Answers;
-use crate::model::entry::{Entry, Kind};
-use crate::model::list::list;
-use crate::model::run;
+use model::entry::{Entry, Kind};
+use model::list::list;
+use model::run;
 
 pub struct Chain {
     pub slaves: usize,

@@ -1,9 +1,9 @@
 //! Master rows: built frames, joined, cut and spoiled, and rows without sense.
 
 use super::random::Random;
-use crate::model::rows::MOST_COLUMNS;
-use crate::model::Outcome::Made;
-use crate::model::{build_command, build_read, build_write};
+use model::rows::MOST_COLUMNS;
+use model::Outcome::Made;
+use model::{build_command, build_read, build_write};
 
 const LONGEST_BUILT: usize = 32 + 14 * 64;
 const BYTE_COLUMNS: usize = 14;

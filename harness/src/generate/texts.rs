@@ -3,10 +3,10 @@
 use super::chains::recording;
 use super::random::Random;
 use crate::conditions::bad_line;
-use crate::model::entry::ENTRY_BYTES;
-use crate::model::list::list;
-use crate::model::rows::MOST_COLUMNS;
-use crate::model::{rows_to_text, text::ROWS_HEADER};
+use model::entry::ENTRY_BYTES;
+use model::list::list;
+use model::rows::MOST_COLUMNS;
+use model::{rows_to_text, text::ROWS_HEADER};
 
 /// What a damaged text is marked with.
 pub const DAMAGES: [&str; 14] = [

@@ -1,7 +1,5 @@
 //! The model under the names of the library, so that mutants of it can be linked.
-#![allow(dead_code, clippy::missing_safety_doc)]
-
-mod model;
+#![allow(clippy::missing_safety_doc)]
 
 use model::Outcome;
 use std::slice::{from_raw_parts as lent, from_raw_parts_mut as lent_mut};
