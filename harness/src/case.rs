@@ -1,120 +1,91 @@
-//! A case: one call of one job, with everything that is lent to it.
+//! A case from a seed: the same seed always gives the same case.
 
-use crate::library;
-use model::Outcome;
+use crate::bench::bench;
+use crate::compare::{compare, describe};
+use crate::counts::Counts;
+use crate::generate::{Faults, Marks, Random};
+use crate::job::{marks, numbers, Job};
+use crate::jobs::JOBS;
+use crate::shrink::shrink;
 
-#[derive(Clone, Copy, PartialEq, Eq, Debug)]
-pub enum Job {
-    BuildRead,
-    BuildWrite,
-    BuildCommand,
-    Run,
-    Read,
-    TextToRows,
-    RowsToText,
-    ListToText,
+/// A line of the table of jobs, whichever job it is.
+pub struct Listed {
+    pub name: &'static str,
+    share: usize,
+    pub refusals: fn() -> Vec<u8>,
+    pub marks: fn() -> Marks,
+    pub bench: fn(),
+    make: fn(&'static str, u64, &mut Random) -> Box<dyn Case>,
 }
 
-pub const JOBS: [Job; 8] = [
-    Job::BuildRead,
-    Job::BuildWrite,
-    Job::BuildCommand,
-    Job::Run,
-    Job::Read,
-    Job::TextToRows,
-    Job::RowsToText,
-    Job::ListToText,
-];
-
-impl Job {
-    /// The job's name, its numbers and its lent slices, in the order of the call.
-    pub fn form(self) -> (&'static str, &'static [&'static str], &'static [&'static str]) {
-        match self {
-            Job::BuildRead => ("build_read", &["id", "address", "count"], &["out"]),
-            Job::BuildWrite => ("build_write", &["id", "address"], &["bytes", "out"]),
-            Job::BuildCommand => ("build_command", &["ids", "cmd"], &["out"]),
-            Job::Run => ("run", &["slaves"], &["rights", "registers", "cdm", "cds"]),
-            Job::Read => ("read", &["opening"], &["cdm", "cds", "out"]),
-            Job::TextToRows => ("text_to_rows", &[], &["text", "cdm", "cds"]),
-            Job::RowsToText => ("rows_to_text", &[], &["cdm", "cds", "out"]),
-            Job::ListToText => ("list_to_text", &[], &["list", "out"]),
+impl Listed {
+    pub const fn new<J: Job>(name: &'static str, share: usize) -> Listed {
+        Listed {
+            name,
+            share,
+            refusals: numbers::<J>,
+            marks: marks::<J>,
+            bench: bench::<J>,
+            make: Seeded::<J>::make,
         }
-    }
-
-    pub fn name(self) -> &'static str {
-        self.form().0
     }
 }
 
-/// Where the answers of a case's rows come from.
-#[derive(Clone, Copy, PartialEq, Eq, Debug)]
-pub enum Answers {
-    Honest,
-    Damaged,
-    Random,
+/// A case, whichever job it is of.
+pub trait Case {
+    /// Compares model and library on it, and counts it if they do not differ.
+    fn compare(&self, counts: &mut Counts) -> Result<(), String>;
+
+    /// The case and what both made of it, for a person to read.
+    fn describe(&self) -> String;
+
+    /// A small case on which they still differ.
+    fn shrunk(&self) -> Box<dyn Case>;
 }
 
-#[derive(Clone)]
-pub struct Case {
-    pub job: Job,
-    pub numbers: Vec<usize>,
-    pub lent: Vec<Vec<u8>>,
-    /// Only for read.
-    pub answers: Option<Answers>,
-    /// What was done to make it, for the counts.
-    pub marks: Vec<&'static str>,
-}
-
-impl Case {
-    pub fn new(job: Job, numbers: Vec<usize>, lent: Vec<Vec<u8>>) -> Case {
-        Case { job, numbers, lent, answers: None, marks: Vec::new() }
+/// The case of a seed.
+pub fn of_seed(seed: u64) -> Box<dyn Case> {
+    let mut random = Random::from_seed(seed);
+    let mut drawn = random.below(JOBS.iter().map(|job| job.share).sum());
+    for job in JOBS {
+        if drawn < job.share {
+            return (job.make)(job.name, seed, &mut random);
+        }
+        drawn -= job.share;
     }
-
-    pub fn marked(self, marks: Vec<&'static str>) -> Case {
-        Case { marks, ..self }
-    }
+    unreachable!("a number below the sum of the shares lies in one of them")
 }
 
-/// Calls the model; the slices are those of the job's form.
-pub fn call_model(job: Job, numbers: &[usize], lent: &mut [&mut [u8]]) -> Outcome {
-    match (job, numbers, lent) {
-        (Job::BuildRead, &[id, address, count], [out]) => {
-            model::build_read(id as u8, address as u8, count, out)
-        }
-        (Job::BuildWrite, &[id, address], [bytes, out]) => {
-            model::build_write(id as u8, address as u8, bytes, out)
-        }
-        (Job::BuildCommand, &[ids, cmd], [out]) => model::build_command(ids as u8, cmd as u8, out),
-        (Job::Run, &[slaves], [rights, registers, cdm, cds]) => {
-            model::run(slaves, rights, registers, cdm, cds)
-        }
-        (Job::Read, &[opening], [cdm, cds, out]) => model::read(cdm, cds, opening, out),
-        (Job::TextToRows, [], [text, cdm, cds]) => model::text_to_rows(text, cdm, cds),
-        (Job::RowsToText, [], [cdm, cds, out]) => model::rows_to_text(cdm, cds, out),
-        (Job::ListToText, [], [list, out]) => model::list_to_text(list, out),
-        _ => unreachable!("a case has the form of its job"),
+struct Seeded<J> {
+    name: &'static str,
+    seed: u64,
+    marks: Marks,
+    case: J,
+}
+
+impl<J: Job> Seeded<J> {
+    fn make(name: &'static str, seed: u64, random: &mut Random) -> Box<dyn Case> {
+        let faults = Faults::draw(random, &numbers::<J>());
+        let mut marks = Marks::new();
+        let case = J::make(random, &faults, &mut marks);
+        Box::new(Seeded { name, seed, marks, case })
     }
 }
 
-/// Calls the library; the slices are those of the job's form.
-pub fn call_library(job: Job, numbers: &[usize], lent: &mut [&mut [u8]]) -> Outcome {
-    match (job, numbers, lent) {
-        (Job::BuildRead, &[id, address, count], [out]) => {
-            library::build_read(id as u8, address as u8, count, out)
-        }
-        (Job::BuildWrite, &[id, address], [bytes, out]) => {
-            library::build_write(id as u8, address as u8, bytes, out)
-        }
-        (Job::BuildCommand, &[ids, cmd], [out]) => {
-            library::build_command(ids as u8, cmd as u8, out)
-        }
-        (Job::Run, &[slaves], [rights, registers, cdm, cds]) => {
-            library::run(slaves, rights, registers, cdm, cds)
-        }
-        (Job::Read, &[opening], [cdm, cds, out]) => library::read(cdm, cds, opening, out),
-        (Job::TextToRows, [], [text, cdm, cds]) => library::text_to_rows(text, cdm, cds),
-        (Job::RowsToText, [], [cdm, cds, out]) => library::rows_to_text(cdm, cds, out),
-        (Job::ListToText, [], [list, out]) => library::list_to_text(list, out),
-        _ => unreachable!("a case has the form of its job"),
+impl<J: Job> Case for Seeded<J> {
+    fn compare(&self, counts: &mut Counts) -> Result<(), String> {
+        let left = compare(&self.case, self.seed)?;
+        counts.count(self.name, &self.marks, &self.case, &left);
+        Ok(())
+    }
+
+    fn describe(&self) -> String {
+        format!("job {}\n{}", self.name, describe(&self.case))
+    }
+
+    fn shrunk(&self) -> Box<dyn Case> {
+        let case = shrink(&self.case, &|candidate| compare(candidate, self.seed).is_err());
+        let marks = self.marks.clone();
+        Box::new(Seeded { name: self.name, seed: self.seed, marks, case })
     }
 }

@@ -2,7 +2,7 @@
 //! crates that hold some of them, and the linked program on these and on texts
 //! from seeds.
 
-use crate::generate::{self, Random};
+use crate::generate::{texts::recorded_text, Random};
 use model::{build_read, build_write, index, rows_to_text, run, Outcome::Made};
 use std::fs;
 use std::io::Write;
@@ -102,7 +102,7 @@ fn spoiled(mut text: Vec<u8>, line: usize) -> Vec<u8> {
 impl Input {
     /// The text of a seed, and an opening column that is 0 said or not.
     fn from_seed(seed: u64, random: &mut Random) -> Input {
-        let (stdin, column) = generate::recorded_text(random);
+        let (stdin, column) = recorded_text(random);
         let opening = (column > 0 || random.one_in(2)).then_some(column);
         Input { name: format!("the text of seed {seed}"), opening, stdin }
     }

@@ -1,74 +1,38 @@
 //! Makes a failing case small.
 
-use crate::case::{Case, Job};
-use model::entry::ENTRY_BYTES;
+use crate::job::Job;
+use crate::lent::{Lent, Use};
 
-/// The slices of a job that get shorter together, and how many bytes at once:
-/// two rows, a text's lines, a list's entries.
-fn pieces(job: Job) -> (&'static [usize], usize) {
-    match job {
-        Job::Run => (&[2, 3], 1),
-        Job::Read | Job::RowsToText => (&[0, 1], 1),
-        Job::TextToRows => (&[0], 4),
-        Job::ListToText => (&[0], ENTRY_BYTES),
-        Job::BuildRead | Job::BuildWrite | Job::BuildCommand => (&[], 1),
-    }
-}
-
-/// The case without bytes `from` to `to` - 1 in these slices.
-fn without_bytes(case: &Case, slices: &[usize], from: usize, to: usize) -> Case {
-    let mut smaller = case.clone();
-    for &slice in slices {
-        let length = smaller.lent[slice].len();
-        smaller.lent[slice].drain(from.min(length)..to.min(length));
-    }
-    if case.job == Job::Read && case.numbers[0] > from {
-        let before_opening = case.numbers[0].min(to) - from;
-        smaller.numbers[0] -= before_opening;
-    }
-    smaller
-}
-
-/// The case with this many of its slaves, counted from the far end.
-fn with_slaves(case: &Case, slaves: usize) -> Case {
-    let mut smaller = case.clone();
-    smaller.numbers[0] = slaves;
-    smaller.lent[0].truncate(128 * slaves);
-    smaller.lent[1].truncate(128 * slaves);
-    smaller
-}
-
-fn with_byte(case: &Case, slice: usize, place: usize, byte: u8) -> Case {
-    let mut simpler = case.clone();
-    simpler.lent[slice][place] = byte;
-    simpler
+/// Whether a lent buffer, by its place among them, is made of pieces.
+fn is_in_pieces<J: Job>(place: usize) -> bool {
+    J::LENT[place].1.piece().is_some()
 }
 
 /// A failing case on its way to a small one.
-struct Shrinker<'a> {
-    case: Case,
-    fails: &'a dyn Fn(&Case) -> bool,
+struct Shrinker<'a, J> {
+    case: J,
+    fails: &'a dyn Fn(&J) -> bool,
 }
 
 /// A small case that still fails.
-pub fn shrink(case: &Case, fails: &dyn Fn(&Case) -> bool) -> Case {
+pub fn shrink<J: Job>(case: &J, fails: &dyn Fn(&J) -> bool) -> J {
     let mut shrinker = Shrinker { case: case.clone(), fails };
-    let (slices, unit) = pieces(case.job);
+    let piece = J::LENT.iter().filter_map(|(_, lent_for)| lent_for.piece()).max().unwrap_or(1);
     for _ in 0..4 {
-        let mut dropped = shrinker.drop_bytes(slices, unit);
-        dropped |= unit > 1 && shrinker.drop_bytes(slices, 1);
-        dropped |= shrinker.drop_slaves();
+        let mut dropped = shrinker.drop_pieces(piece);
+        dropped |= piece > 1 && shrinker.drop_pieces(1);
+        dropped |= shrinker.take_smaller();
         shrinker.simplify_bytes();
         if !dropped {
             break;
         }
     }
-    shrinker.shorten_room();
+    shrinker.shorten_rooms();
     shrinker.case
 }
 
-impl Shrinker<'_> {
-    fn keep_if_failing(&mut self, candidate: Case) -> bool {
+impl<J: Job> Shrinker<'_, J> {
+    fn keep_if_failing(&mut self, candidate: J) -> bool {
         let fails = (self.fails)(&candidate);
         if fails {
             self.case = candidate;
@@ -76,86 +40,95 @@ impl Shrinker<'_> {
         fails
     }
 
-    fn keep_if_failing_without(&mut self, slices: &[usize], from: usize, to: usize) -> bool {
-        self.keep_if_failing(without_bytes(&self.case, slices, from, to))
+    /// Does without bytes `from` to `to` - 1 of all that is made of pieces.
+    fn keep_if_failing_without(&mut self, from: usize, to: usize) -> bool {
+        let mut smaller = self.case.clone();
+        for (place, lent) in smaller.lent_mut().into_iter().enumerate() {
+            if is_in_pieces::<J>(place) {
+                lent.cut(from, to);
+            }
+        }
+        smaller.follow_cut(from, to);
+        self.keep_if_failing(smaller)
     }
 
-    fn longest(&self, slices: &[usize]) -> usize {
-        slices.iter().map(|&slice| self.case.lent[slice].len()).max().unwrap_or(0)
+    /// Changes one lent buffer, by its place among them.
+    fn keep_if_failing_with(&mut self, place: usize, change: impl Fn(&mut Lent)) -> bool {
+        let mut changed = self.case.clone();
+        change(changed.lent_mut()[place]);
+        self.keep_if_failing(changed)
     }
 
-    /// Drops pieces of these slices from the end, from the front and from
-    /// between; a piece is a number of units.
-    fn drop_bytes(&mut self, slices: &[usize], unit: usize) -> bool {
+    /// The bytes of the longest that is made of pieces.
+    fn longest(&self) -> usize {
+        let lent = self.case.lent();
+        let in_pieces = (0..lent.len()).filter(|&place| is_in_pieces::<J>(place));
+        in_pieces.map(|place| lent[place].len()).max().unwrap_or(0)
+    }
+
+    /// Drops some pieces at once from the end, from the front and from between,
+    /// fewer and fewer.
+    fn drop_pieces(&mut self, piece: usize) -> bool {
         let mut any = false;
-        let mut size = self.longest(slices) / unit * unit;
+        let mut size = self.longest() / piece * piece;
         while size > 0 {
-            while size <= self.longest(slices) && self.drop_from_end_or_front(slices, size) {
+            while size <= self.longest() && self.drop_from_end_or_front(size) {
                 any = true;
             }
             let mut from = 0;
-            while from + size <= self.longest(slices) && size <= 64 * unit {
-                if self.keep_if_failing_without(slices, from, from + size) {
+            while from + size <= self.longest() && size <= 64 * piece {
+                if self.keep_if_failing_without(from, from + size) {
                     any = true;
                 } else {
                     from += size;
                 }
             }
-            size = size / unit / 2 * unit;
+            size = size / piece / 2 * piece;
         }
         any
     }
 
-    fn drop_from_end_or_front(&mut self, slices: &[usize], size: usize) -> bool {
-        let longest = self.longest(slices);
-        self.keep_if_failing_without(slices, longest - size, longest)
-            || self.keep_if_failing_without(slices, 0, size)
+    fn drop_from_end_or_front(&mut self, size: usize) -> bool {
+        let longest = self.longest();
+        self.keep_if_failing_without(longest - size, longest)
+            || self.keep_if_failing_without(0, size)
     }
 
-    /// Shortens the buffers that a result goes into.
-    fn shorten_room(&mut self) {
-        let rooms: &[usize] = match self.case.job {
-            Job::Run => &[],
-            Job::TextToRows => &[1, 2],
-            _ => &[self.case.lent.len() - 1],
-        };
-        for &room in rooms {
-            let mut size = self.case.lent[room].len();
-            while size > 0 {
-                let length = self.case.lent[room].len();
-                let shorter =
-                    size <= length && self.keep_if_failing_without(&[room], length - size, length);
-                if !shorter {
-                    size /= 2;
-                }
+    fn take_smaller(&mut self) -> bool {
+        self.case.smaller().into_iter().any(|smaller| self.keep_if_failing(smaller))
+    }
+
+    /// Shortens the room for results.
+    fn shorten_rooms(&mut self) {
+        for (place, &(_, lent_for)) in J::LENT.iter().enumerate() {
+            if lent_for == Use::Room {
+                self.shorten_room(place);
             }
         }
     }
 
-    fn drop_slaves(&mut self) -> bool {
-        if self.case.job != Job::Run {
-            return false;
+    fn shorten_room(&mut self, place: usize) {
+        let mut size = self.case.lent()[place].len();
+        while size > 0 {
+            let length = self.case.lent()[place].len();
+            let shorter = size <= length
+                && self.keep_if_failing_with(place, |lent| lent.cut(length - size, length));
+            if !shorter {
+                size /= 2;
+            }
         }
-        let slaves = self.case.numbers[0].min(17);
-        (0..slaves).any(|fewer| self.keep_if_failing(with_slaves(&self.case, fewer)))
     }
 
-    /// Zeroes bytes; whole slices first. Rights go to 3, a text's bytes to `0`.
+    /// Makes bytes plain; whole buffers first.
     fn simplify_bytes(&mut self) {
-        for slice in 0..self.case.lent.len() {
-            let plain = match (self.case.job, slice) {
-                (Job::Run, 0) => 3,
-                (Job::TextToRows, 0) => b'0',
-                _ => 0,
-            };
-            let mut all = self.case.clone();
-            all.lent[slice].fill(plain);
-            if self.keep_if_failing(all) {
+        for (place, (_, lent_for)) in J::LENT.iter().enumerate() {
+            let plain = lent_for.plain();
+            if self.keep_if_failing_with(place, |lent| lent.fill(plain)) {
                 continue;
             }
-            for place in 0..self.case.lent[slice].len() {
-                if self.case.lent[slice][place] != plain {
-                    self.keep_if_failing(with_byte(&self.case, slice, place, plain));
+            for byte in 0..self.case.lent()[place].len() {
+                if self.case.lent()[place][byte] != plain {
+                    self.keep_if_failing_with(place, |lent| lent[byte] = plain);
                 }
             }
         }

@@ -32,3 +32,14 @@ pub enum Outcome {
     /// Refusal 11 with its line, counted from 1.
     BadLine(usize),
 }
+
+impl Outcome {
+    /// The number of the refusal, if it is one.
+    pub fn refusal(self) -> Option<u8> {
+        match self {
+            Outcome::Made(_) => None,
+            Outcome::Refused(number) => Some(number),
+            Outcome::BadLine(_) => Some(11),
+        }
+    }
+}

@@ -2,7 +2,7 @@
 
 use super::frame::FIRST_LOCK;
 
-#[derive(Clone, Copy, PartialEq, Eq, Debug)]
+#[derive(Clone, Copy, PartialEq, Eq, PartialOrd, Ord, Debug)]
 pub enum Phase {
     PowerOn,
     Rest,

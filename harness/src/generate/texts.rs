@@ -1,10 +1,9 @@
-//! Texts of rows and lists of entries, whole and spoiled.
+//! Texts of rows, whole and spoiled.
 
-use super::chains::recording;
+use super::faults::TWO_32;
 use super::random::Random;
+use super::recordings::recording;
 use crate::conditions::bad_line;
-use model::entry::ENTRY_BYTES;
-use model::list::list;
 use model::rows::MOST_COLUMNS;
 use model::{rows_to_text, text::ROWS_HEADER};
 
@@ -26,8 +25,8 @@ pub const DAMAGES: [&str; 14] = [
     "bad line past the limit",
 ];
 
-/// What a spoiled list is marked with.
-pub const LIST_FAULTS: [&str; 4] = ["ragged", "kind 0", "kind 17", "kind over 17"];
+/// Larger than any row, and small if cut to sixteen bits.
+const LARGE: usize = 3 * TWO_32;
 
 const BYTES: &[u8] = b"01\t\n 2a\r\0";
 
@@ -116,46 +115,22 @@ fn with_return(line: &[u8]) -> Vec<u8> {
     [&line[..line.len() - 1], b"\r\n"].concat()
 }
 
-/// The bytes of a list: one that was read, or kinds with any fields, at times
-/// many.
-pub fn list_bytes(random: &mut Random) -> Vec<u8> {
-    if random.one_in(4) {
-        let rows = recording(random);
-        return list(&rows.cdm, &rows.cds, 0).iter().flat_map(|entry| entry.bytes()).collect();
-    }
-    let entries = if random.one_in(8) { random.between(100, 700) } else { random.below(30) };
-    (0..entries).flat_map(|_| entry(random)).collect()
-}
-
-/// An entry of any kind with any fields, often numbers where a digit is gained.
-fn entry(random: &mut Random) -> Vec<u8> {
-    let mut entry = random.bytes(ENTRY_BYTES);
+/// A text for the indexing program, whole, too long or damaged, and an opening
+/// column, at times past its end.
+pub fn recorded_text(random: &mut Random) -> (Vec<u8>, usize) {
+    let (mut text, mut columns) = text(random);
     if random.one_in(3) {
-        let column = random.pick(&[0u16, 9, 10, 99, 100, 999, 1000, 4095, 9999, 10000, u16::MAX]);
-        entry[1..3].copy_from_slice(&column.to_be_bytes());
-        entry[3..].fill_with(|| random.pick(&[0, 1, 9, 10, 99, 100, 199, 255]));
+        columns = lengthen(random, &mut text);
     }
-    entry[0] = random.between(1, 16) as u8;
-    entry
-}
-
-/// Gives a list a length or a kind that it must not have, or both.
-pub fn spoil_list(random: &mut Random, list: &mut Vec<u8>) -> Vec<&'static str> {
-    let mut marks = Vec::new();
-    let entries = list.len() / ENTRY_BYTES;
-    if entries > 0 && !random.one_in(3) {
-        let any = random.below(entries);
-        let place = random.pick(&[0, entries - 1, any]);
-        let fault = random.between(1, 3);
-        let over = random.between(18, 255) as u8;
-        list[ENTRY_BYTES * place] = [0, 17, over][fault - 1];
-        marks.push(LIST_FAULTS[fault]);
+    if random.one_in(4) {
+        columns += random.below(40_000);
+        text.resize(8 + 4 * columns, 0);
+        text[8..].chunks_exact_mut(4).for_each(|line| line.copy_from_slice(b"1\t0\n"));
     }
-    if marks.is_empty() || random.one_in(4) {
-        let length = list.len() + random.between(1, 5);
-        let kind = random.between(0, 20) as u8;
-        list.resize(length, kind);
-        marks.push("ragged");
+    if random.one_in(3) {
+        damage(random, &mut text);
     }
-    marks
+    let within = random.below(columns + 1);
+    let opening = random.pick(&[0, 0, within, within, columns, columns + 1, LARGE, usize::MAX]);
+    (text, opening)
 }

@@ -1,0 +1,67 @@
+//! The counts as a table.
+
+use super::{kind_name, kinds, refusals, Count, Counts, LOCKS};
+use crate::case::Listed;
+use crate::generate::recordings::{Answers, ANSWERS};
+use crate::jobs::JOBS;
+use model::phase::PHASES;
+
+impl Counts {
+    pub fn table(&self) -> String {
+        let jobs: String = JOBS.iter().map(|job| self.table_of_job(job)).collect();
+        self.table_of_entries() + &self.table_of_phases() + &jobs
+    }
+
+    fn table_of_entries(&self) -> String {
+        let row = |name: &str, count: &dyn Fn(Answers) -> Count, printed: &str| {
+            let [honest, damaged, random] = ANSWERS.map(|answers| self.of(count(answers)));
+            format!("{name:<16}{honest:>10}{damaged:>10}{random:>10}{printed:>10}\n")
+        };
+        let mut text = format!(
+            "{:<16}{:>10}{:>10}{:>10}{:>10}\n",
+            "entries", "honest", "damaged", "random", "printed"
+        );
+        for kind in kinds() {
+            let name = format!("{kind:>2} {}", kind_name(kind));
+            let printed = self.of(Count::Printed(kind)).to_string();
+            text += &row(&name, &|answers| Count::Entry(answers, kind), &printed);
+        }
+        text += &row("   odd at 127", &Count::OddAt127, "");
+        text += &row("   odd at 64th", &Count::OddAt64th, "");
+        for value in LOCKS {
+            text += &row(&format!("   lock {value}"), &|answers| Count::Lock(answers, value), "");
+        }
+        text
+    }
+
+    fn table_of_phases(&self) -> String {
+        let mut text = format!("\n{:<16}{:>10}{:>10}\n", "phases", "slave", "reader");
+        for phase in PHASES {
+            let slave = self.of(Count::SlaveAt(phase));
+            let reader = self.of(Count::ReaderAt(phase));
+            text += &format!("{:<16}{slave:>10}{reader:>10}\n", format!("   {phase:?}"));
+        }
+        text
+    }
+
+    fn table_of_job(&self, job: &Listed) -> String {
+        let name = job.name;
+        let mut text = format!("\n{name:<14} made {}\n", self.of(Count::Made(name)));
+        for (number, later) in refusals(job) {
+            let all = self.of(Count::Refused(name, number));
+            let alone = self.of(Count::Alone(name, number));
+            text += &format!("  refused {number:>2} {all:>7}   alone {alone:>6}");
+            for other in later {
+                let with = self.of(Count::With(name, number, other));
+                text += &format!("   with {other} {with:>5}");
+            }
+            text += "\n";
+        }
+        let marked = |mark: &&'static str| format!("{mark} {}", self.of(Count::Marked(name, mark)));
+        for marks in (job.marks)().chunks(6) {
+            let counts: Vec<String> = marks.iter().map(marked).collect();
+            text += &format!("  {}\n", counts.join(", "));
+        }
+        text
+    }
+}

@@ -1,0 +1,89 @@
+//! The job that prints a list.
+
+use super::Calls;
+use crate::bench::{rows, Timed};
+use crate::counts::{Count, Counts};
+use crate::generate::lists::{list_bytes, spoil_list, LIST_FAULTS};
+use crate::generate::{room, Faults, Marks, Random};
+use crate::job::{fields, Job, Refusals};
+use crate::lent::Lent;
+use model::entry::ENTRY_BYTES;
+use model::Outcome::{self, Made};
+
+/// The header's bytes, and the most that an entry's line can have.
+const HEADER: usize = 30;
+const LONGEST_LINE: usize = 27;
+
+fields!(ListToText { ; list: List, out: Room });
+
+impl Job for ListToText {
+    const REFUSALS: Refusals<ListToText> = &[
+        (12, |case| case.is_ragged() || case.entries().any(|entry| !(1..=16).contains(&entry[0]))),
+        (9, |case| printed_bytes(&case.list).unwrap_or(1) > case.out.len()),
+    ];
+
+    fn marks() -> Marks {
+        LIST_FAULTS.to_vec()
+    }
+
+    fn make(random: &mut Random, faults: &Faults, marks: &mut Marks) -> ListToText {
+        let mut list = list_bytes(random);
+        let needed = printed_bytes(&list).expect("all kinds are within 1 to 16");
+        if faults.has(12) {
+            marks.extend(spoil_list(random, &mut list));
+        }
+        let out = room(random, marks, needed, faults.has(9));
+        ListToText { list: Lent::copy(&list), out }
+    }
+
+    fn call(&mut self, calls: &impl Calls) -> Outcome {
+        calls.list_to_text(&self.list, &mut self.out)
+    }
+
+    fn count(&self, _: &ListToText, _: usize, counts: &mut Counts) {
+        self.entries().for_each(|entry| counts.add_one(Count::Printed(entry[0])));
+    }
+
+    fn shown(&self, who: &str, made: usize) -> String {
+        let text = String::from_utf8_lossy(&self.out[..made.min(self.out.len())]);
+        format!("text of the {who}:\n{text}")
+    }
+
+    /// Its columns are the printed bytes.
+    fn timed() -> Vec<Timed<ListToText>> {
+        let timed = |(name, rows): (_, Vec<Vec<u8>>)| {
+            let cases: Vec<_> = rows.iter().map(|cdm| ListToText::of_one_slave(cdm)).collect();
+            let entries = cases.iter().map(|case| case.entries().count()).sum::<usize>();
+            let bytes = cases.iter().map(|case| case.out.len()).sum();
+            Timed::new(&format!("list, {}", entries / rows.len()), name, bytes, cases)
+        };
+        let is_busy = |&(name, _): &(&str, _)| name != "idle";
+        rows::timed(1).into_iter().filter(is_busy).map(timed).collect()
+    }
+}
+
+impl ListToText {
+    fn is_ragged(&self) -> bool {
+        !self.list.len().is_multiple_of(ENTRY_BYTES)
+    }
+
+    fn entries(&self) -> impl Iterator<Item = &[u8]> {
+        self.list.chunks_exact(ENTRY_BYTES)
+    }
+
+    /// The list of a row that one slave answered.
+    fn of_one_slave(cdm: &[u8]) -> ListToText {
+        let list = rows::listed(cdm);
+        let bytes = printed_bytes(&list).expect("a list that was read");
+        ListToText { list: Lent::copy(&list), out: Lent::zeros(bytes) }
+    }
+}
+
+/// The bytes of a list's text, if it has one.
+fn printed_bytes(list: &[u8]) -> Option<usize> {
+    let mut ample = vec![0; HEADER + LONGEST_LINE * list.len() / ENTRY_BYTES];
+    match model::list_to_text(list, &mut ample) {
+        Made(bytes) => Some(bytes),
+        _ => None,
+    }
+}

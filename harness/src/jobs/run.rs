@@ -1,0 +1,137 @@
+//! The job that runs a chain over a master row.
+
+use super::Calls;
+use crate::bench::{rows, Timed};
+use crate::checks::{late_opening, must};
+use crate::conditions::{bad_byte, too_long};
+use crate::counts::{Count, Counts};
+use crate::generate::chains::{chain_and_row, chain_of};
+use crate::generate::faults::{spoil_byte, spoil_length, BAD_ROW_BYTES, TWO_16, TWO_32, TWO_57};
+use crate::generate::recordings::two_lengths;
+use crate::generate::{Faults, Marks, Random};
+use crate::job::{fields, Job, Refusals};
+use crate::lent::{Lent, Use};
+use model::account::account;
+use model::chain::{allows, phases};
+use model::list::list;
+use model::replay::{reads_show_what_stood, replay};
+use model::Outcome::{self, Made};
+
+fields!(Run { slaves: usize; rights: Rights, registers: Bytes, cdm: Row, cds: Row });
+
+impl Job for Run {
+    const REFUSALS: Refusals<Run> = &[
+        (1, |case| case.slaves >= 17),
+        (2, |case| Some(case.registers.len()) != case.slaves.checked_mul(128)),
+        (3, |case| Some(case.rights.len()) != case.slaves.checked_mul(128)),
+        (4, |case| case.rights.iter().any(|right| ![0, 1, 2, 3].contains(right))),
+        (5, |case| too_long(&case.cdm, &case.cds)),
+        (6, |case| case.cdm.len() != case.cds.len()),
+        (7, |case| bad_byte(&case.cdm)),
+    ];
+
+    fn make(random: &mut Random, faults: &Faults, _: &mut Marks) -> Run {
+        let (mut chain, cdm) = chain_and_row(random);
+        if faults.has(1) && random.one_in(4) {
+            chain.slaves += random.pick(&[256, TWO_16, TWO_32, TWO_57, usize::MAX - 16]);
+        } else if faults.has(1) {
+            let slaves = random.pick(&[17, 17, 17, 18, 32, 200]);
+            chain = chain_of(random, slaves);
+        }
+        if faults.has(2) {
+            spoil_length(random, &mut chain.registers, 7);
+        }
+        if faults.has(3) {
+            spoil_length(random, &mut chain.rights, 3);
+        }
+        if faults.has(4) {
+            spoil_byte(random, &mut chain.rights, &[4, 5, 7, 8, 128, 255]);
+        }
+        let (mut cdm, cds_length) = two_lengths(random, cdm, faults);
+        if faults.has(7) {
+            spoil_byte(random, &mut cdm, BAD_ROW_BYTES);
+        }
+        let cds = random.bytes(cds_length);
+        Run {
+            slaves: chain.slaves,
+            rights: Lent::copy(&chain.rights),
+            registers: Lent::copy(&chain.registers),
+            cdm: Lent::copy(&cdm),
+            cds: Lent::copy(&cds),
+        }
+    }
+
+    fn call(&mut self, calls: &impl Calls) -> Outcome {
+        calls.run(self.slaves, &self.rights, &mut self.registers, &self.cdm, &mut self.cds)
+    }
+
+    fn check(&self, left: &Run, outcome: Outcome, random: &mut Random) -> Result<(), String> {
+        let Made(_) = outcome else { return Ok(()) };
+        let account = account(self.slaves, &self.rights, &self.registers, &self.cdm);
+        let entries = list(&self.cdm, &left.cds, 0);
+        let replayed = replay(&self.registers, &entries);
+        must(entries == account.entries, "the list of honest rows is the chain's account")?;
+        must(account.registers == left.registers[..], "the account's registers are the chain's")?;
+        must(replayed == left.registers[..], "replay gives the final registers")?;
+        must(reads_show_what_stood(&self.registers, &entries), "reads show what stood there")?;
+        late_opening(&self.cdm, &left.cds, random)?;
+        self.check_two_runs(left, random)
+    }
+
+    fn count(&self, _: &Run, _: usize, counts: &mut Counts) {
+        let met = phases(&self.rights, &mut self.registers.clone(), &self.cdm);
+        counts.add_phases(Count::SlaveAt, &met);
+    }
+
+    fn shown(&self, who: &str, _: usize) -> String {
+        format!("  cds after the {who:<7}: {}\n", Use::Row.shown(&self.cds))
+    }
+
+    /// Chains of fewer slaves, counted from the far end.
+    fn smaller(&self) -> Vec<Run> {
+        let with = |slaves: usize| {
+            let mut smaller = Run { slaves, ..self.clone() };
+            smaller.rights.cut(128 * slaves, usize::MAX);
+            smaller.registers.cut(128 * slaves, usize::MAX);
+            smaller
+        };
+        (0..self.slaves.min(17)).map(with).collect()
+    }
+
+    fn timed() -> Vec<Timed<Run>> {
+        let timed = |slaves: usize| {
+            rows::timed(slaves).into_iter().map(move |(name, rows)| {
+                let columns = rows.concat().len();
+                let cases = rows.iter().map(|cdm| Run::of_open_slaves(slaves, cdm)).collect();
+                Timed::new(&format!("run, {slaves} slaves"), name, columns, cases)
+            })
+        };
+        [1, 8, 16].into_iter().flat_map(timed).collect()
+    }
+}
+
+impl Run {
+    /// All rights 3.
+    fn of_open_slaves(slaves: usize, cdm: &[u8]) -> Run {
+        Run {
+            slaves,
+            rights: Lent::copy(&vec![3; 128 * slaves]),
+            registers: Lent::copy(&vec![0x5A; 128 * slaves]),
+            cdm: Lent::copy(cdm),
+            cds: Lent::zeros(cdm.len()),
+        }
+    }
+
+    /// "Two runs with the same rights and master row that differ only in
+    /// registers without the read right give the same answer row."
+    fn check_two_runs(&self, left: &Run, random: &mut Random) -> Result<(), String> {
+        let mut other = self.clone();
+        for (register, &right) in other.registers.iter_mut().zip(self.rights.iter()) {
+            if !allows(right, false) {
+                *register = random.next() as u8;
+            }
+        }
+        other.call(&super::Model);
+        must(other.cds[..] == left.cds[..], "two runs give the same answers")
+    }
+}

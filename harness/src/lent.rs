@@ -1,0 +1,101 @@
+//! Buffers lent to a call, with guards around them.
+
+use model::entry::ENTRY_BYTES;
+use std::ops::{Deref, DerefMut};
+
+/// Bytes before and behind a lent buffer that nobody may touch.
+const GUARD: usize = 64;
+const GUARD_BYTE: u8 = 0xA5;
+
+/// A lent buffer; it stands for the bytes between its guards.
+#[derive(Clone)]
+pub struct Lent(Vec<u8>);
+
+impl Lent {
+    pub fn copy(bytes: &[u8]) -> Lent {
+        let guard = [GUARD_BYTE; GUARD];
+        Lent([&guard, bytes, &guard].concat())
+    }
+
+    pub fn zeros(length: usize) -> Lent {
+        Lent::copy(&vec![0; length])
+    }
+
+    /// Takes out bytes `from` to `to` - 1, as far as there are any.
+    pub fn cut(&mut self, from: usize, to: usize) {
+        let length = self.len();
+        self.0.drain(GUARD + from.min(length)..GUARD + to.min(length));
+    }
+
+    /// The place of a touched guard byte, counted from the buffer's first byte.
+    pub fn touched_guard(&self) -> Option<isize> {
+        let end = GUARD + self.len();
+        let mut guards = (0..GUARD).chain(end..end + GUARD);
+        let touched = guards.find(|&place| self.0[place] != GUARD_BYTE);
+        touched.map(|place| place as isize - GUARD as isize)
+    }
+}
+
+impl Deref for Lent {
+    type Target = [u8];
+
+    fn deref(&self) -> &[u8] {
+        &self.0[GUARD..self.0.len() - GUARD]
+    }
+}
+
+impl DerefMut for Lent {
+    fn deref_mut(&mut self) -> &mut [u8] {
+        let end = self.0.len() - GUARD;
+        &mut self.0[GUARD..end]
+    }
+}
+
+/// What a buffer is lent for; by it a case is shown and made small.
+#[derive(Clone, Copy, PartialEq, Eq)]
+pub enum Use {
+    Row,
+    Text,
+    List,
+    Rights,
+    Bytes,
+    /// A result goes into it.
+    Room,
+}
+
+impl Use {
+    /// The bytes of a column, a line or an entry, where it is made of such
+    /// pieces; all buffers of a case that are get shorter together.
+    pub fn piece(self) -> Option<usize> {
+        match self {
+            Use::Row => Some(1),
+            Use::Text => Some(4),
+            Use::List => Some(ENTRY_BYTES),
+            Use::Rights | Use::Bytes | Use::Room => None,
+        }
+    }
+
+    /// The byte that says least.
+    pub fn plain(self) -> u8 {
+        match self {
+            Use::Rights => 3,
+            Use::Text => b'0',
+            Use::Row | Use::List | Use::Bytes | Use::Room => 0,
+        }
+    }
+
+    /// Rows as digits where they hold 0 and 1, texts as they are, all else in
+    /// hex, repeats shortened.
+    pub fn shown(self, bytes: &[u8]) -> String {
+        if self == Use::Row && bytes.iter().all(|&byte| byte < 2) {
+            return bytes.iter().map(|byte| char::from(b'0' + byte)).collect();
+        }
+        if self == Use::Text {
+            return format!("\"{}\"", bytes.escape_ascii());
+        }
+        if bytes.len() > 1 && bytes.iter().all(|&byte| byte == bytes[0]) {
+            return format!("all {:02x}", bytes[0]);
+        }
+        bytes.iter().map(|byte| format!("{byte:02x}")).collect::<Vec<_>>().join(" ")
+    }
+}
