@@ -1,15 +1,16 @@
 #!/usr/bin/env python3
-"""Links mutants of the model in the library's place; the harness must find each.
+"""Puts mutants of the model in the library's place; the harness must find each.
 
 usage: mutants.py [NAME...]    (all if none is named)
 """
-import os, shutil, subprocess, sys, time
+import os
+import shutil
+import subprocess
+import sys
+import time
 
 HERE = os.path.dirname(os.path.abspath(__file__))
-ROOT = os.path.dirname(HERE)
 WORK = os.path.join(HERE, "work")
-LIB = os.path.join(WORK, "target", "release")
-ENV = dict(os.environ, BISS_LIB_DIR=LIB, BISS_LIB_KIND="dylib")
 
 # These do the same as the model: 128 and a count from 1 on pass 128 anyway; S
 # itself is a 1; no header with a right check ends so that W is a fourteenth zero.
@@ -85,7 +86,8 @@ MUTANTS = [
     ("reader at rest when let in", "reader.rs", "lock: 0, awaits: Awaits::Rest", "lock: 0, awaits: Awaits::Start"),
     ("end without a frame", "reader.rs", "frame_begun: false, lock", "frame_begun: true, lock"),
     ("end again and again", "reader.rs", "            self.frame_begun = false;\n", ""),
-    ("deaf gives no end", "reader.rs", "let ends = self.frame_begun;", "let ends = self.frame_begun && !matches!(before, Awaits::Rest);"),
+    ("deaf gives no end", "reader.rs", "        if self.zeros.rest_after(cdm) {\n            self.awaits = Awaits::Start;\n            let ends = self.frame_begun;",
+     "        let before = self.awaits;\n        if self.zeros.rest_after(cdm) {\n            self.awaits = Awaits::Start;\n            let ends = self.frame_begun && !matches!(before, Awaits::Rest);"),
     ("IDL8 not counted", "reader.rs", "self.lock = ones as u8;", "self.lock = ones.min(8) as u8;"),
     ("lockodd not deaf", "reader.rs", "return self.deaf_after(Entry::of(Kind::LockOdd));", "self.lock = ones as u8; return Some(Entry::of(Kind::LockOdd));"),
     ("locked one off", "reader.rs", "id < self.lock;", "id <= self.lock;"),
@@ -132,55 +134,50 @@ MUTANTS = [
 ]
 
 
-def run(command, **more):
-    return subprocess.run(command, env=ENV, stdout=subprocess.PIPE, stderr=subprocess.STDOUT, text=True, **more)
+def copy_model(file, old, new):
+    """Makes work/ the model's copy with one text of one file changed; says whether the text is there."""
+    shutil.rmtree(WORK, ignore_errors=True)
+    shutil.copytree(os.path.join(os.path.dirname(HERE), "model"), WORK)
+    return change("Cargo.toml", 'name = "model"', 'name = "mutant"') and change(os.path.join("src", file), old, new)
 
 
-def make_library(file, old, new):
-    shutil.copytree(os.path.join(HERE, "template"), WORK, dirs_exist_ok=True)
-    model = os.path.join(WORK, "model")
-    shutil.rmtree(model, ignore_errors=True)
-    shutil.copytree(os.path.join(ROOT, "model"), model)
-    path = os.path.join(model, "src", file)
+def change(file, old, new):
+    path = os.path.join(WORK, file)
     text = open(path).read()
-    if old not in text:
-        return "its text is not there"
-    text = text.replace(old, new)
-    if "matches!(before" in new:
-        text = text.replace("        if self.zeros.rest_after(cdm) {", "        let before = self.awaits;\n        if self.zeros.rest_after(cdm) {")
-    open(path, "w").write(text)
-    built = run(["cargo", "build", "--release", "-j", "1", "--offline"], cwd=WORK)
-    return None if built.returncode == 0 else built.stdout[-1500:]
+    open(path, "w").write(text.replace(old, new))
+    return old in text
+
+
+def run(command):
+    return subprocess.run(command, cwd=HERE, stdout=subprocess.PIPE, stderr=subprocess.STDOUT, text=True)
+
+
+def compare(file, old, new):
+    """Whether the harness finds the mutant, and the line that says so; None where it can't be built, and why."""
+    if not copy_model(file, old, new):
+        return None, "its text is not there"
+    built = run(["cargo", "build", "--quiet", "--release", "--locked", "--offline"])
+    if built.returncode != 0:
+        return None, built.stdout[-1500:]
+    compared = run([os.path.join(HERE, "target", "release", "harness")])
+    first = next((line for line in compared.stdout.splitlines() if line.startswith("DIFFERENCE")), "")
+    return compared.returncode != 0 and first != "", first[:110]
 
 
 def main():
-    os.makedirs(WORK, exist_ok=True)
     wanted = sys.argv[1:]
-    harness = None
-    missed = []
+    wrong = []
     for name, file, old, new in MUTANTS:
-        if wanted and name not in wanted and name != "none":
+        if wanted and name not in wanted:
             continue
-        trouble = make_library(file, old, new)
-        if trouble:
-            print(f"{name:<32} NOT BUILT: {trouble}")
-            missed.append(name)
-            continue
-        if harness is None:
-            target = os.path.join(HERE, "target")
-            command = ["cargo", "build", "--release", "-j", "1", "--offline", "--features", "linked", "--target-dir", target]
-            linked = run(command, cwd=ROOT)
-            if linked.returncode != 0:
-                sys.exit(linked.stdout)
-            harness = os.path.join(target, "release", "harness")
         start = time.time()
-        result = run([harness])
-        first = next((line for line in result.stdout.splitlines() if line.startswith("DIFFERENCE")), "")
-        found = result.returncode != 0 and first != ""
-        if found == (name in EQUAL):
-            missed.append(name)
-        print(f"{name:<32} {'found' if found else 'not found'} {time.time() - start:6.2f} s  {first[:110]}", flush=True)
-    print("wrong:", missed if missed else "nothing")
+        found, line = compare(file, old, new)
+        if found is not (name not in EQUAL):
+            wrong.append(name)
+        said = {True: "found", False: "not found", None: "NOT BUILT"}[found]
+        print(f"{name:<36} {said:<9} {time.time() - start:6.2f} s  {line}", flush=True)
+    print("wrong:", ", ".join(wrong) if wrong else "nothing")
+    sys.exit(1 if wrong else 0)
 
 
 main()

@@ -2,27 +2,47 @@
 //! model's.
 //!
 //! With the feature `linked` they are the linked library's, by the wrapper that
-//! its users get; without it they are the model's own, so that the comparison
-//! can be tried on itself.
+//! its users get; with `mutant`, those of a mutant of the model; with neither,
+//! the model's own, so that the comparison can be tried on itself.
 
 use model::Outcome;
 
 pub struct Library;
 
-pub const NAME: &str = if cfg!(feature = "linked") { "library" } else { "model itself" };
+pub const NAME: &str = if cfg!(feature = "linked") {
+    "library"
+} else if cfg!(feature = "mutant") {
+    "mutant"
+} else {
+    "model itself"
+};
 
 /// What a function answers, in the model's words.
 pub trait Told {
     fn told(self) -> Outcome;
 }
 
-#[cfg(not(feature = "linked"))]
+#[cfg(not(any(feature = "linked", feature = "mutant")))]
 pub use model as functions;
 
-#[cfg(not(feature = "linked"))]
+#[cfg(not(any(feature = "linked", feature = "mutant")))]
 impl Told for Outcome {
     fn told(self) -> Outcome {
         self
+    }
+}
+
+#[cfg(feature = "mutant")]
+pub use mutant as functions;
+
+#[cfg(feature = "mutant")]
+impl Told for mutant::Outcome {
+    fn told(self) -> Outcome {
+        match self {
+            mutant::Outcome::Made(made) => Outcome::Made(made),
+            mutant::Outcome::Refused(number) => Outcome::Refused(number),
+            mutant::Outcome::BadLine(line) => Outcome::BadLine(line),
+        }
     }
 }
 
