@@ -8,7 +8,7 @@ use crate::compare::Left;
 use crate::generate::recordings::{Answers, ANSWERS};
 use crate::job::{holding, Job};
 use crate::jobs::JOBS;
-use model::entry::{ENTRY_BYTES, FORMS};
+use model::entry::{ADDRESS, ENTRY_BYTES, FORMS, KIND, VALUE};
 use model::phase::{Met, Phase, PHASES};
 use model::Outcome::Made;
 use std::collections::BTreeMap;
@@ -130,7 +130,7 @@ impl Counts {
 
     pub fn add_list(&mut self, answers: Answers, list: &[u8]) {
         for entry in list.chunks(ENTRY_BYTES) {
-            let (kind, address, value) = (entry[0], entry[4], entry[5]);
+            let (kind, address, value) = (entry[KIND], entry[ADDRESS], entry[VALUE]);
             self.add_one(Count::Entry(answers, kind));
             match (kind, address, value) {
                 (1, _, _) => self.add_one(Count::Lock(answers, value)),

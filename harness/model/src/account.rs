@@ -1,12 +1,12 @@
 //! The chain's account: "worked out from the slaves and the master row, not
 //! the answers". It cuts the row at its rests and takes each frame as a whole,
-//! so that it shares no stepping with chain.rs and reader.rs.
+//! so that it shares no stepping with slave.rs and reader.rs.
 
-use super::chain::allows;
 use super::check::{check_bits, BYTE_BITS, HEADER_BITS};
 use super::entry::{Entry, Kind};
 use super::frame::{FIRST_LOCK, REGISTERS};
 use super::rows::ZEROS_TO_REST;
+use super::slave::allows;
 
 pub struct Account<'a> {
     slaves: usize,

@@ -1,6 +1,15 @@
 //! "Six bytes: kind, column (two bytes, high first), id, address, value."
 
+use std::ops::Range;
+
 pub const ENTRY_BYTES: usize = 6;
+
+/// Where a field stands among them.
+pub const KIND: usize = 0;
+pub const COLUMN: Range<usize> = 1..3;
+pub const ID: usize = 3;
+pub const ADDRESS: usize = 4;
+pub const VALUE: usize = 5;
 
 #[derive(Clone, Copy, PartialEq, Eq, Debug)]
 pub enum Kind {

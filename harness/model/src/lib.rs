@@ -13,6 +13,7 @@ pub mod phase;
 pub mod reader;
 pub mod replay;
 pub mod rows;
+pub mod slave;
 pub mod text;
 
 pub use build::{build_command, build_read, build_write};

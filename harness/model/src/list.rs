@@ -1,9 +1,9 @@
 //! Lists: the reading of two rows, and the printing of a list.
 
-use super::entry::{Entry, ENTRY_BYTES, FORMS};
+use super::entry::{Entry, ADDRESS, COLUMN, ENTRY_BYTES, FORMS, ID, KIND, VALUE};
 use super::phase::Met;
 use super::reader::Reader;
-use super::rows::{has_bad_byte, is_too_long};
+use super::rows::refusal_of_rows;
 use super::Outcome::{self, Made, Refused};
 
 /// The list of a reader let in at column `opening`, which knows nothing of the
@@ -32,14 +32,8 @@ pub fn phases(cdm: &[u8], cds: &[u8], opening: usize) -> Met {
 
 /// The job read.
 pub fn read(cdm: &[u8], cds: &[u8], opening: usize, out: &mut [u8]) -> Outcome {
-    if is_too_long(cdm) || is_too_long(cds) {
-        return Refused(5);
-    }
-    if cdm.len() != cds.len() {
-        return Refused(6);
-    }
-    if has_bad_byte(cdm) || has_bad_byte(cds) {
-        return Refused(7);
+    if let Some(number) = refusal_of_rows(cdm, cds) {
+        return Refused(number);
     }
     if opening > cdm.len() {
         return Refused(8);
@@ -63,19 +57,19 @@ fn field(is_named: bool, value: u8) -> String {
 }
 
 fn line(entry: &[u8]) -> String {
-    let form = &FORMS[usize::from(entry[0]) - 1];
-    let column = usize::from(entry[1]) << 8 | usize::from(entry[2]);
-    let id = field(form.id, entry[3]);
-    let address = field(form.address, entry[4]);
-    let value = field(form.value, entry[5]);
+    let form = &FORMS[usize::from(entry[KIND]) - 1];
+    let column = entry[COLUMN].iter().fold(0, |high, &low| high << 8 | usize::from(low));
+    let id = field(form.id, entry[ID]);
+    let address = field(form.address, entry[ADDRESS]);
+    let value = field(form.value, entry[VALUE]);
     format!("{}\t{column}\t{id}\t{address}\t{value}\n", form.name)
 }
 
 /// The job that prints a list.
 pub fn list_to_text(list: &[u8], out: &mut [u8]) -> Outcome {
     let entries = list.chunks_exact(ENTRY_BYTES);
-    if !entries.remainder().is_empty() || entries.clone().any(|entry| !(1..=16).contains(&entry[0]))
-    {
+    let has_bad_kind = entries.clone().any(|entry| !(1..=16).contains(&entry[KIND]));
+    if !entries.remainder().is_empty() || has_bad_kind {
         return Refused(12);
     }
     let mut text = "event\tcolumn\tid\taddress\tvalue\n".to_string();

@@ -62,6 +62,7 @@ impl Reader {
         Reader { zeros: Zeros::none_yet(), frame_begun: false, lock: 0, awaits: Awaits::Rest }
     }
 
+    #[inline]
     pub fn step(&mut self, cdm: u8, cds: u8) -> Option<Entry> {
         if self.zeros.rest_after(cdm) {
             self.awaits = Awaits::Start;

@@ -13,6 +13,17 @@ pub fn has_bad_byte(row: &[u8]) -> bool {
     row.iter().any(|&byte| byte > 1)
 }
 
+/// Refusals 5, 6 and 7 for two rows that are both judged.
+pub fn refusal_of_rows(cdm: &[u8], cds: &[u8]) -> Option<u8> {
+    if is_too_long(cdm) || is_too_long(cds) {
+        return Some(5);
+    }
+    if cdm.len() != cds.len() {
+        return Some(6);
+    }
+    (has_bad_byte(cdm) || has_bad_byte(cds)).then_some(7)
+}
+
 /// Counts the CDM zeros in a row up to now.
 #[derive(Clone, Copy)]
 pub struct Zeros(usize);

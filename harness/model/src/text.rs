@@ -1,6 +1,6 @@
 //! Rows to and from text: "one column a line".
 
-use super::rows::{has_bad_byte, is_too_long, MOST_COLUMNS};
+use super::rows::{refusal_of_rows, MOST_COLUMNS};
 use super::Outcome::{self, BadLine, Made, Refused};
 
 pub const ROWS_HEADER: &[u8] = b"cdm\tcds\n";
@@ -47,14 +47,8 @@ pub fn text_to_rows(text: &[u8], cdm: &mut [u8], cds: &mut [u8]) -> Outcome {
 
 /// The job rows to text.
 pub fn rows_to_text(cdm: &[u8], cds: &[u8], out: &mut [u8]) -> Outcome {
-    if is_too_long(cdm) || is_too_long(cds) {
-        return Refused(5);
-    }
-    if cdm.len() != cds.len() {
-        return Refused(6);
-    }
-    if has_bad_byte(cdm) || has_bad_byte(cds) {
-        return Refused(7);
+    if let Some(number) = refusal_of_rows(cdm, cds) {
+        return Refused(number);
     }
     let mut text = ROWS_HEADER.to_vec();
     for (a, b) in cdm.iter().zip(cds) {

@@ -3,7 +3,7 @@
 use super::random::Random;
 use super::recordings::recording;
 use super::Marks;
-use model::entry::ENTRY_BYTES;
+use model::entry::{COLUMN, ENTRY_BYTES, KIND};
 use model::list::list;
 
 /// What a spoiled list is marked with.
@@ -25,10 +25,10 @@ fn entry(random: &mut Random) -> Vec<u8> {
     let mut entry = random.bytes(ENTRY_BYTES);
     if random.one_in(3) {
         let column = random.pick(&[0u16, 9, 10, 99, 100, 999, 1000, 4095, 9999, 10000, u16::MAX]);
-        entry[1..3].copy_from_slice(&column.to_be_bytes());
-        entry[3..].fill_with(|| random.pick(&[0, 1, 9, 10, 99, 100, 199, 255]));
+        entry[COLUMN].copy_from_slice(&column.to_be_bytes());
+        entry[COLUMN.end..].fill_with(|| random.pick(&[0, 1, 9, 10, 99, 100, 199, 255]));
     }
-    entry[0] = random.between(1, 16) as u8;
+    entry[KIND] = random.between(1, 16) as u8;
     entry
 }
 
@@ -41,7 +41,7 @@ pub fn spoil_list(random: &mut Random, list: &mut Vec<u8>) -> Marks {
         let place = random.pick(&[0, entries - 1, any]);
         let fault = random.between(1, 3);
         let over = random.between(18, 255) as u8;
-        list[ENTRY_BYTES * place] = [0, 17, over][fault - 1];
+        list[ENTRY_BYTES * place + KIND] = [0, 17, over][fault - 1];
         marks.push(LIST_FAULTS[fault]);
     }
     if marks.is_empty() || random.one_in(4) {

@@ -7,7 +7,7 @@ use crate::generate::lists::{list_bytes, spoil_list, LIST_FAULTS};
 use crate::generate::{room, Faults, Marks, Random};
 use crate::job::{fields, Job, Refusals};
 use crate::lent::Lent;
-use model::entry::ENTRY_BYTES;
+use model::entry::{ENTRY_BYTES, KIND};
 use model::Outcome::{self, Made};
 
 /// The header's bytes, and the most that an entry's line can have.
@@ -18,7 +18,7 @@ fields!(ListToText { ; list: List, out: Room });
 
 impl Job for ListToText {
     const REFUSALS: Refusals<ListToText> = &[
-        (12, |case| case.is_ragged() || case.entries().any(|entry| !(1..=16).contains(&entry[0]))),
+        (12, |case| case.is_ragged() || case.kinds().any(|kind| !(1..=16).contains(&kind))),
         (9, |case| printed_bytes(&case.list).unwrap_or(1) > case.out.len()),
     ];
 
@@ -41,7 +41,7 @@ impl Job for ListToText {
     }
 
     fn count(&self, _: &ListToText, _: usize, counts: &mut Counts) {
-        self.entries().for_each(|entry| counts.add_one(Count::Printed(entry[0])));
+        self.kinds().for_each(|kind| counts.add_one(Count::Printed(kind)));
     }
 
     fn shown(&self, who: &str, made: usize) -> String {
@@ -53,7 +53,7 @@ impl Job for ListToText {
     fn timed() -> Vec<Timed<ListToText>> {
         let timed = |(name, rows): (_, Vec<Vec<u8>>)| {
             let cases: Vec<_> = rows.iter().map(|cdm| ListToText::of_one_slave(cdm)).collect();
-            let entries = cases.iter().map(|case| case.entries().count()).sum::<usize>();
+            let entries = cases.iter().map(|case| case.kinds().count()).sum::<usize>();
             let bytes = cases.iter().map(|case| case.out.len()).sum();
             Timed::new(&format!("list, {}", entries / rows.len()), name, bytes, cases)
         };
@@ -67,8 +67,9 @@ impl ListToText {
         !self.list.len().is_multiple_of(ENTRY_BYTES)
     }
 
-    fn entries(&self) -> impl Iterator<Item = &[u8]> {
-        self.list.chunks_exact(ENTRY_BYTES)
+    /// The kinds of its entries.
+    fn kinds(&self) -> impl Iterator<Item = u8> + '_ {
+        self.list.chunks_exact(ENTRY_BYTES).map(|entry| entry[KIND])
     }
 
     /// The list of a row that one slave answered.

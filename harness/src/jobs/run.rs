@@ -12,9 +12,10 @@ use crate::generate::{Faults, Marks, Random};
 use crate::job::{fields, Job, Refusals};
 use crate::lent::{Lent, Use};
 use model::account::account;
-use model::chain::{allows, phases};
+use model::chain::phases;
 use model::list::list;
 use model::replay::{reads_show_what_stood, replay};
+use model::slave::allows;
 use model::Outcome::{self, Made};
 
 fields!(Run { slaves: usize; rights: Rights, registers: Bytes, cdm: Row, cds: Row });

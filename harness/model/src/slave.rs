@@ -1,0 +1,214 @@
+//! A slave, stepped column by column.
+
+use super::check::{check_bits, check_is_right, BYTE_BITS, HEADER_BITS};
+use super::frame::{BYTE_AND_CHECK, FIRST_LOCK, LAST_HEADER, MOST_BYTES, REGISTERS};
+use super::phase::{of_access, of_header, Phase};
+use super::rows::Zeros;
+
+/// "One right for each: 0 none, 1 read, 2 write, 3 both."
+pub fn allows(right: u8, writing: bool) -> bool {
+    right & (if writing { 2 } else { 1 }) != 0
+}
+
+/// An accepted access at its present byte.
+#[derive(Clone, Copy)]
+struct Access {
+    writing: bool,
+    address: u8,
+    /// Bytes passed before the present one.
+    passed: u8,
+}
+
+/// What a slave awaits in the next column.
+#[derive(Clone, Copy)]
+enum Awaits {
+    /// Nothing but fourteen zeros: deaf, or not yet at rest after power-on.
+    Rest,
+    Start,
+    /// Columns after S already seen, and their bits.
+    Header {
+        seen: u8,
+        bits: u16,
+    },
+    R {
+        address: u8,
+    },
+    W {
+        address: u8,
+        r: u8,
+    },
+    ByteStart(Access),
+    /// Data and check bits already passed; reading, `bits` are those to send.
+    Byte {
+        access: Access,
+        done: u8,
+        bits: u16,
+    },
+    P {
+        access: Access,
+        stored_or_read: bool,
+    },
+}
+
+pub struct Slave<'a> {
+    rights: &'a [u8],
+    registers: &'a mut [u8],
+    zeros: Zeros,
+    number: Option<u8>,
+    awaits: Awaits,
+}
+
+impl<'a> Slave<'a> {
+    pub fn at_power_on(rights: &'a [u8], registers: &'a mut [u8]) -> Slave<'a> {
+        let zeros = Zeros::none_yet();
+        Slave { rights, registers, zeros, number: None, awaits: Awaits::Rest }
+    }
+
+    pub fn phase(&self) -> Phase {
+        match self.awaits {
+            Awaits::Rest => Phase::Deaf,
+            Awaits::Start => Phase::Rest,
+            Awaits::Header { seen, .. } => of_header(seen + 1),
+            Awaits::R { .. } => Phase::R,
+            Awaits::W { .. } => Phase::W,
+            Awaits::ByteStart(a) => of_access(a.writing, Phase::ReadStart, Phase::WriteStart),
+            Awaits::Byte { access: a, .. } => {
+                of_access(a.writing, Phase::ReadBits, Phase::WriteBits)
+            }
+            Awaits::P { access: a, .. } => of_access(a.writing, Phase::ReadP, Phase::WriteP),
+        }
+    }
+
+    /// Takes a column's CDM bit and the bit from the far side; gives the bit
+    /// for the master's side.
+    #[inline]
+    pub fn step(&mut self, cdm: u8, seen: u8) -> u8 {
+        if self.zeros.rest_after(cdm) {
+            self.awaits = Awaits::Start;
+            return 0;
+        }
+        match self.awaits {
+            Awaits::Rest => seen,
+            Awaits::Start => self.start(cdm, seen),
+            Awaits::Header { seen: before, bits } => {
+                self.header(before + 1, bits << 1 | u16::from(cdm), seen)
+            }
+            Awaits::R { address } => {
+                self.awaits = Awaits::W { address, r: cdm };
+                cdm
+            }
+            Awaits::W { address, r } => self.w(address, r, cdm),
+            Awaits::ByteStart(access) => self.byte_start(access, cdm),
+            Awaits::Byte { access, done, bits } => self.byte(access, done, bits, cdm),
+            Awaits::P { access, stored_or_read } => self.p(access, stored_or_read),
+        }
+    }
+
+    fn start(&mut self, cdm: u8, seen: u8) -> u8 {
+        if cdm == 1 {
+            self.number = None;
+            self.awaits = Awaits::Header { seen: 0, bits: 0 };
+        }
+        seen
+    }
+
+    /// `column` counts from 1 after S; `bits` includes this column's.
+    fn header(&mut self, column: u8, bits: u16, seen: u8) -> u8 {
+        self.awaits = if column < LAST_HEADER {
+            Awaits::Header { seen: column, bits }
+        } else {
+            self.after_header(bits)
+        };
+        self.lock(column, seen)
+    }
+
+    fn lock(&mut self, column: u8, seen: u8) -> u8 {
+        let is_lock = (FIRST_LOCK..=FIRST_LOCK + 8).contains(&column);
+        if !is_lock || self.number.is_some() {
+            return seen;
+        }
+        let lock = column - FIRST_LOCK;
+        if lock == 8 {
+            return 1;
+        }
+        if seen == 0 {
+            self.number = Some(lock);
+            return 1;
+        }
+        seen
+    }
+
+    fn after_header(&self, bits: u16) -> Awaits {
+        let is_register_access = bits >> 14 == 1;
+        let id = (bits >> 11 & 7) as u8;
+        let address = (bits >> 4 & 127) as u8;
+        if !check_is_right(bits, HEADER_BITS) || !is_register_access || self.number != Some(id) {
+            return Awaits::Rest;
+        }
+        Awaits::R { address }
+    }
+
+    fn w(&mut self, address: u8, r: u8, w: u8) -> u8 {
+        let writing = w == 1;
+        if r == w || !allows(self.rights[usize::from(address)], writing) {
+            self.awaits = Awaits::Rest;
+            return 1 - w;
+        }
+        self.awaits = Awaits::ByteStart(Access { writing, address, passed: 0 });
+        w
+    }
+
+    fn byte_start(&mut self, access: Access, cdm: u8) -> u8 {
+        if cdm == 0 {
+            self.awaits = Awaits::Rest;
+            return 0;
+        }
+        let held = u16::from(self.registers[usize::from(access.address)]);
+        let to_send = held << 4 | u16::from(check_bits(held, BYTE_BITS));
+        let bits = if access.writing { 0 } else { to_send };
+        self.awaits = Awaits::Byte { access, done: 0, bits };
+        1
+    }
+
+    fn byte(&mut self, access: Access, done: u8, bits: u16, cdm: u8) -> u8 {
+        if access.writing {
+            self.byte_to_write(access, done + 1, bits << 1 | u16::from(cdm));
+            return cdm;
+        }
+        let done = done + 1;
+        self.awaits = if done < BYTE_AND_CHECK {
+            Awaits::Byte { access, done, bits }
+        } else {
+            Awaits::P { access, stored_or_read: true }
+        };
+        (bits >> (BYTE_AND_CHECK - done) & 1) as u8
+    }
+
+    /// `done` counts this column, `bits` includes its bit.
+    fn byte_to_write(&mut self, access: Access, done: u8, bits: u16) {
+        if done < BYTE_AND_CHECK {
+            self.awaits = Awaits::Byte { access, done, bits };
+            return;
+        }
+        let right = check_is_right(bits, BYTE_BITS);
+        if right {
+            self.registers[usize::from(access.address)] = (bits >> 4) as u8;
+        }
+        self.awaits = Awaits::P { access, stored_or_read: right };
+    }
+
+    fn p(&mut self, access: Access, stored_or_read: bool) -> u8 {
+        let passed = access.passed + 1;
+        let next = access.address + 1;
+        let goes_on = stored_or_read
+            && passed < MOST_BYTES
+            && usize::from(next) < REGISTERS
+            && allows(self.rights[usize::from(next)], access.writing);
+        if !goes_on {
+            self.awaits = Awaits::Rest;
+            return 1;
+        }
+        self.awaits = Awaits::ByteStart(Access { address: next, passed, ..access });
+        0
+    }
+}
