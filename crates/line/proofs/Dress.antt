@@ -8,7 +8,7 @@ use native.Mathlib.Nat.{add-zero, zero-add, add-suc, suc-add}
 use lib.ListN.{length}
 use Rattle.line.specs.Rest.{Timed, power}
 use Rattle.line.specs.Memory.{Memory}
-use Rattle.line.specs.Slave.{Slave, Step, Phase, slave, step}
+use Rattle.line.specs.Slave.{Slave, Step, Phase, reply, slave, step}
 use Rattle.line.specs.Chain.{Passed, behind, pass, column, switchedOn, memories}
 
 -- The chain over memories ks, the first of them at place i, in which the slave at each place is in that place's state.
@@ -17,7 +17,7 @@ dress f i [] = []
 dress f i (k ∷ ks) = slave k (f i) ∷ dress f (suc i) ks
 
 abbrev pub stepTo : Memory → Timed Phase → Bool → Step
-stepTo k s b = record { slave = slave k s; sent = b }
+stepTo k s b = record { state = s; says = reply b k }
 
 abbrev pub passTo : List Slave → Bool → Passed
 passTo ss b = record { slaves = ss; answer = b }

@@ -7,16 +7,17 @@ use Prim.Native.Nat.{ℕ, zero, suc}
 use lib.Dec.{ltb}
 use Rattle.line.specs.Limits.{headerColumns, lockLast}
 use Rattle.line.specs.Bits.{push}
-use Rattle.line.specs.Rest.{Timed, Judged, still, ends, meant, judge}
+use Rattle.line.specs.Rest.{Timed, judge}
 use Rattle.line.specs.Division.{dataBits, fits, byteOf}
 use Rattle.line.specs.Header.{Header, wrong, access, command, header}
 use Rattle.line.specs.Memory.{Memory, allows}
 use Rattle.line.specs.Entries.{Kind, Entry, entry}
 use Rattle.line.specs.Slave.{Slave}
 use Rattle.line.specs.Chain.{column, memories}
-use Rattle.line.specs.Account.{Phase, deaf, locks, head, askR, askW, byteS, carries, askP, Told, slaveAt, moreAt, headed, asked, tell, stepped, begun, step, along}
+use Rattle.line.specs.Account.{Phase, deaf, locks, head, askR, askW, byteS, carries, askP, Told, slaveAt, moreAt, headed, asked, tell, begun, step, along}
 use Rattle.line.specs.Replay.{is}
 use Rattle.line.proofs.Every.{Every, IfAny, either, every-note}
+use Rattle.line.proofs.Machine.{says-so}
 
 -- The kinds that only a damaged row shows.
 abbrev pub faults : List Kind
@@ -61,15 +62,10 @@ fair-tell c ks (carries true id address nth zero so-far) m =
     either (λ k. Sound (entry k c id address (byteOf (push so-far m)))) (fits dataBits (push so-far m)) refl refl
 fair-tell c ks (askP write good id address nth) m = either Fair (good && moreAt (slaveAt ks id) write address nth) tt refl
 
-fair-stepped : (c : ℕ) (ks : List Memory) (j : Judged Phase) (m : Bool) → IfAny Sound (stepped c ks j m .says)
-fair-stepped c ks (still s) m = tt
-fair-stepped c ks ends m = refl
-fair-stepped c ks (meant z p) m = fair-tell c ks p m
-
 pub fair-along : (ss : List Slave) (s : Timed Phase) (c : ℕ) (row : List Bool) → Every Sound (along ss s c row)
 unfolding along step
 fair-along ss s c [] = tt
 fair-along ss s c (m ∷ row) =
     every-note Sound (step c (memories ss) s m .says) (along (column ss m .slaves) (step c (memories ss) s m .state) (suc c) row)
-    (fair-stepped c (memories ss) (judge begun s m) m)
+    (says-so (IfAny Sound) (λ p. tell c (memories ss) p m) tt refl (λ p. fair-tell c (memories ss) p m) (judge begun s m))
     (fair-along (column ss m .slaves) (step c (memories ss) s m .state) (suc c) row)

@@ -12,13 +12,14 @@ use lib.Dec.{ltb}
 use lib.ListN.{length, take, drop, replicate, take-append-drop, length-take, length-drop}
 use lib.Seq.{take-add, drop-drop, length-take-le}
 use Rattle.line.specs.Limits.{restZeros, headerColumns, lockLast, registerCount, byteLimit}
-use Rattle.line.specs.Rest.{Timed, power, rest, powerOn, Judged, still, ends, meant, judge, timer}
+use Rattle.line.specs.Rest.{Timed, power, rest, powerOn, judge, timer}
 use Rattle.line.specs.Bits.{push}
 use Rattle.line.specs.Header.{Header, wrong, access, command, header}
 use Rattle.line.specs.Entries.{Entry, note}
-use Rattle.line.specs.Reader.{Locks, ones, upto, mixed, shown, Phase, deaf, locks, head, askR, askW, byteS, reads, writes, askP, Look, locked, headed, asked, look, Column, col, columns, stepped, step, begun, entries, after, listFrom}
+use Rattle.line.specs.Reader.{Locks, ones, upto, mixed, shown, Phase, deaf, locks, head, askR, askW, byteS, reads, writes, askP, Look, locked, headed, asked, look, Column, col, columns, step, begun, entries, after, listFrom}
 use Rattle.line.specs.Runs.{Zeros, RunAt, FirstRun, NoRun, fromColumn}
-use Rattle.line.proofs.Rest.{moved, Soon, soon-moved, soon-rest, fourteen}
+use Rattle.line.proofs.Rest.{Soon, soon-rest, fourteen}
+use Rattle.line.proofs.Machine.{soon-step, says-so}
 use Rattle.line.proofs.Every.{Every, IfAny, either, tested, every-note}
 
 -- The CDM row of the columns.
@@ -44,18 +45,12 @@ after-append s c [] ys = rw add-zero
 after-append s c (col m x ∷ xs) ys = rw (add-suc, ← suc-add) (after-append _ (suc c) xs ys)
 
 -- Rest: "fourteen zeros bring .. the reader to rest".
-moves : (c : ℕ) (m x : Bool) (j : Judged Phase) → stepped c j m x .state ≡ moved begun (λ p. look c p m x .next) j
-moves c m x (still s) = refl
-moves c m x ends = refl
-moves c m x (meant z p) = refl
-
 pub rests : (n : ℕ) (s : Timed Phase) (c : ℕ) (cs : List Column) → Soon begun n s → Zeros n (masters cs) → after s c (take n cs) ≡ rest
 unfolding after step Zeros
 rests zero s c cs h zs = soon-rest begun s h
 rests (suc n) s c [] h zs = absurd zs
 rests (suc n) s c (col true x ∷ cs) h zs = absurd zs
-rests (suc n) s c (col false x ∷ cs) h zs =
-    rests n _ (suc c) cs (rw (moves c false x (judge begun s false)) (soon-moved begun _ s n h)) zs
+rests (suc n) s c (col false x ∷ cs) h zs = rests n _ (suc c) cs (soon-step begun _ _ (λ p. look c p false x) s n h) zs
 
 -- An entry's column is the column it was given in.
 abbrev In : ℕ → Look → Type 0
@@ -102,14 +97,9 @@ in-look c (askP write id address nth) m true = refl
 in-look c (askP write id address nth) m false =
     either (In c) (ltb (address + 1) registerCount && ltb nth byteLimit) tt refl
 
-in-stepped : (c : ℕ) (m x : Bool) (j : Judged Phase) → IfAny (λ e. e .column ≡ c) (stepped c j m x .says)
-in-stepped c m x (still s) = tt
-in-stepped c m x ends = refl
-in-stepped c m x (meant z p) = in-look c p m x
-
 pub in-step : (c : ℕ) (s : Timed Phase) (m x : Bool) → IfAny (λ e. e .column ≡ c) (step c s m x .says)
 unfolding step
-in-step c s m x = in-stepped c m x (judge begun s m)
+in-step c s m x = says-so (IfAny (λ e. e .column ≡ c)) (λ p. look c p m x) tt refl (λ p. in-look c p m x) (judge begun s m)
 
 -- The entries of columns i to j - 1.
 abbrev Within : (i j : ℕ) → Entry → Type 0

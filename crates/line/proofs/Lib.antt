@@ -9,10 +9,11 @@ pub mod Codec
 pub mod Text
 pub mod Printed
 pub mod Channels
+pub mod Every
 pub mod Rest
+pub mod Machine
 pub mod Dress
 pub mod Locks
-pub mod Every
 pub mod Late
 pub mod Rows
 pub mod Memories

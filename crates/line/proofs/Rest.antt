@@ -14,13 +14,13 @@ use lib.ListN.{length}
 use Rattle.line.specs.Limits.{restZeros}
 use Rattle.line.specs.Rest.{Timed, power, rest, frame, Judged, still, ends, meant, timer, judge}
 
-module _ {P : Type 0} (begun : P) where
-  -- A machine's next state, where f is what the column does to its phase.
-  abbrev pub moved : (P → P) → Judged P → Timed P
-  moved f (still s) = s
-  moved f ends = rest
-  moved f (meant z p) = frame z (f p)
+-- A machine's next state, where f is what the column does to its phase.
+abbrev pub moved : {P : Type 0} → (P → P) → Judged P → Timed P
+moved f (still s) = s
+moved f ends = rest
+moved f (meant z p) = frame z (f p)
 
+module _ {P : Type 0} (begun : P) where
   -- The state after as many zeros as there are fs, each doing what it likes to the phase.
   unfoldable pub settled : Timed P → List (P → P) → Timed P
   settled s [] = s

@@ -5,11 +5,11 @@ use mathlib.Core.List.{List, [], _∷_, _++_}
 use Prim.Native.Nat.{ℕ, zero, suc}
 use lib.ListN.{length, replicate}
 use Rattle.line.specs.Limits.{restZeros}
-use Rattle.line.specs.Rest.{rest, Judged, still, ends, meant, judge}
-use Rattle.line.specs.Memory.{Memory}
-use Rattle.line.specs.Slave.{Phase, Slave, speak, begun, stepped, step}
+use Rattle.line.specs.Rest.{rest}
+use Rattle.line.specs.Slave.{Slave, speak, begun, step}
 use Rattle.line.specs.Chain.{pass, column, answers, after}
-use Rattle.line.proofs.Rest.{moved, Soon, soon-moved, soon-rest, fourteen}
+use Rattle.line.proofs.Rest.{Soon, soon-rest, fourteen}
+use Rattle.line.proofs.Machine.{soon-step}
 use Rattle.line.proofs.Every.{Every}
 
 -- One row after another: the chain goes on from the slaves that the first leaves.
@@ -29,12 +29,6 @@ unfolding answers
 answers-length ss [] = refl
 answers-length ss (m ∷ row) = ap suc (answers-length (column ss m .slaves) row)
 
--- A slave is a machine behind Rest's judge.
-moves : (k : Memory) (m b : Bool) (j : Judged Phase) → stepped k j m b .slave .state ≡ moved begun (λ p. speak k p m b .next) j
-moves k m b (still s) = refl
-moves k m b ends = refl
-moves k m b (meant z p) = refl
-
 -- Every slave is so many zeros from rest.
 abbrev pub AllSoon : ℕ → List Slave → Type 0
 AllSoon n ss = Every (λ s. Soon begun n (s .state)) ss
@@ -44,8 +38,8 @@ soon-pass : (n : ℕ) (ss : List Slave) (b : Bool) → AllSoon (suc n) ss → Al
 unfolding pass step
 soon-pass n [] b h = tt
 soon-pass n (s ∷ ss) b h = (
-  rw (moves (s .memory) false b (judge begun (s .state) false)) (soon-moved begun _ (s .state) n (h .0)),
-  soon-pass n ss (step s false b .sent) (h .1),
+  soon-step begun _ _ (λ p. speak (s .memory) p false b) (s .state) n (h .0),
+  soon-pass n ss (step s false b .says .sent) (h .1),
 )
 
 pub soon-after : (n : ℕ) (ss : List Slave) → AllSoon n ss → Every (λ s. s .state ≡ rest) (after ss (replicate n false))

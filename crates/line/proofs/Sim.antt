@@ -13,6 +13,7 @@ use lib.ListN.{length, getElem?}
 use Rattle.line.specs.Limits.{headerColumns, idCount, lockFirst, lockLast}
 use Rattle.line.specs.Bits.{bit, push}
 use Rattle.line.specs.Rest.{Timed, power, rest, frame, timer}
+use Rattle.line.specs.Machine.{taken, gives}
 use Rattle.line.specs.Division.{dataBits, topBit, word, fits, byteOf}
 use Rattle.line.specs.Header.{Header, wrong, access, command, header}
 use Rattle.line.specs.Memory.{Memory, allows, holds, stored}
@@ -112,7 +113,7 @@ ladder-next n j =
 -- After IDL8 the reader has the lock value.
 ladder-locked : (n j c column w : ℕ) → j ≡ idCount
     → Reader.locked c column w (Reader.shown (lockFirst + j) (ladder n j) (ltb j n))
-    ≡ Reader.gives (entry Kind.lock c 0 0 (min (idCount + 1) n)) (Reader.head (column + 1) w (min (idCount + 1) n))
+    ≡ gives (entry Kind.lock c 0 0 (min (idCount + 1) n)) (Reader.head (column + 1) w (min (idCount + 1) n))
 unfolding ladder Reader.locked
 ladder-locked n j c column w e =
     rw (ladder-next n j, e)
@@ -142,7 +143,7 @@ module _ (ks : List Memory) (bs : Bytes ks) (c z z′ : ℕ) where
       → Chain.column (dress (framed z f) 0 ks) m ≡ passTo (dress (framed z′ g) 0 (kept ks (T .says))) x
       → Sim (kept ks (T .says)) (T .next) g (L x .next) → L x .says ≡ T .says
       → Bytes (kept ks (T .says)) → IfAny (λ e. whenRead (is Kind.read e) ks e) (T .says)
-      → Next ks (framed z f) m (Account.told z′ T) (λ y. Reader.looked z′ (L y))
+      → Next ks (framed z f) m (taken z′ T) (λ y. taken z′ (L y))
   to g x passes onward alike bytes shows =
       record {
         chain = framed z′ g;
@@ -173,7 +174,7 @@ module _ (ks : List Memory) (bs : Bytes ks) (c z z′ : ℕ) where
   -- The header's last column, for each header.
   headed : {m : Bool} {f : ℕ → Slave.Phase} (h : Header) → LowId h
       → Chain.column (dress (framed z f) 0 ks) m ≡ passTo (dress (framed z′ (λ i. Slave.called h (number i idCount))) 0 ks) false
-      → Next ks (framed z f) m (Account.told z′ (Account.headed c h)) (λ x. Reader.looked z′ (Reader.headed c h (lockOf ks)))
+      → Next ks (framed z f) m (taken z′ (Account.headed c h)) (λ x. taken z′ (Reader.headed c h (lockOf ks)))
   unfolding Account.headed Reader.headed Slave.called put
   headed wrong low passes = to (λ i. Slave.deaf) false passes all-deaf refl bs tt
   headed (command ids cmd) low passes = to (λ i. Slave.deaf) false passes all-deaf refl bs tt
@@ -191,7 +192,7 @@ module _ (ks : List Memory) (bs : Bytes ks) (c z z′ : ℕ) where
 
   -- One column of a frame, in each of the cases above.
   pub advance : {p : Account.Phase} {f : ℕ → Slave.Phase} {r : Reader.Phase} → Sim ks p f r → (m : Bool) → timer z m ≡ some z′
-      → Next ks (framed z f) m (Account.told z′ (Account.tell c ks p m)) (λ x. Reader.looked z′ (Reader.look c r m x))
+      → Next ks (framed z f) m (taken z′ (Account.tell c ks p m)) (λ x. taken z′ (Reader.look c r m x))
   unfolding Account.tell Account.asked Reader.look Reader.asked Slave.speak put
   advance all-deaf m t = to (λ i. Slave.deaf) false (deafened m t) all-deaf refl bs tt
   advance (at-locks column j w e h) m t =

@@ -11,14 +11,16 @@ use lib.Dec.{ltb, eqb}
 use lib.ListN.{length, getD, set, length-set}
 use Rattle.line.specs.Limits.{headerColumns, lockLast}
 use Rattle.line.specs.Bits.{push}
-use Rattle.line.specs.Rest.{Timed, power, rest, frame, powerOn, Judged, still, ends, meant, waiting, running, timer, judge}
+use Rattle.line.specs.Rest.{Timed, rest, frame, powerOn}
+use Rattle.line.specs.Machine.{taken}
 use Rattle.line.specs.Division.{dataBits, fits, byteOf}
 use Rattle.line.specs.Header.{Header, wrong, access, command, header}
 use Rattle.line.specs.Memory.{Memory, allows, holds, stored}
-use Rattle.line.specs.Slave.{Phase, deaf, locks, head, askR, askW, byteS, sends, takes, askP, Turn, turn, called, more, speak, Slave, slave, Step, spoken, stepped, begun, step}
+use Rattle.line.specs.Slave.{Phase, deaf, locks, head, askR, askW, byteS, sends, takes, askP, Turn, turn, called, more, speak, Slave, slave, Step, stepped, step, leaves}
 use Rattle.line.specs.Chain.{Passed, pass, column, answers, switchedOn}
 use Rattle.line.proofs.Every.{either, Matched}
 use Rattle.line.proofs.Memories.{goes-on}
+use Rattle.line.proofs.Machine.{At, judged}
 
 -- The same rights, as many registers, and the same byte in every register that may be read; of the others nothing is asked.
 pub record Like (k k′ : Memory) : Type 0 where
@@ -120,52 +122,24 @@ same-turn k k′ (askP write good address nth) m b l o =
     rw (same-more k k′ write address nth l)
     (decides k k′ write (address + 1) (nth + 1) false true (good && more k write address nth) l (λ h. goes-on k write good address nth h .1))
 
--- Around the phases: at power-on and at rest nothing of a memory counts ..
-abbrev OpenAt : Memory → Timed Phase → Type 0
-OpenAt k (power z) = Unit {0}
-OpenAt k rest = Unit {0}
-OpenAt k (frame z p) = Open k p
-
--- .. nor does it in what the column is to a slave.
-abbrev OpenTo : Memory → Judged Phase → Type 0
-OpenTo k (still s) = OpenAt k s
-OpenTo k ends = Unit {0}
-OpenTo k (meant z p) = Open k p
-
-open-waiting : (k : Memory) (o : Option ℕ) → OpenTo k (waiting o)
-open-waiting k none = tt
-open-waiting k (some z) = tt
-
-open-running : (k : Memory) (o : Option ℕ) (p : Phase) → Open k p → OpenTo k (running o p)
-open-running k none p h = tt
-open-running k (some z) p h = h
-
-open-judged : (k : Memory) (s : Timed Phase) (m : Bool) → OpenAt k s → OpenTo k (judge begun s m)
-unfolding judge
-open-judged k (power z) m o = open-waiting k (timer z m)
-open-judged k rest false o = tt
-open-judged k rest true o = tt
-open-judged k (frame z p) m o = open-running k (timer z m) p o
-
--- Twins: one state, and memories that are alike.
+-- Twins: one state, and memories that are alike; at power-on and at rest nothing more is asked.
 pub data Twin : Slave → Slave → Type 0 where
-  twin : {k k′ : Memory} (s : Timed Phase) → Like k k′ → OpenAt k s → Twin (slave k s) (slave k′ s)
+  twin : {k k′ : Memory} (s : Timed Phase) → Like k k′ → At (Open k) s → Twin (slave k s) (slave k′ s)
 
 record SameStep (t t′ : Step) : Type 0 where
-  slave : Twin (t .slave) (t′ .slave)
-  sent : t .sent ≡ t′ .sent
+  slaves : Twin (leaves t) (leaves t′)
+  sent : t .says .sent ≡ t′ .says .sent
 
-same-spoken : (z : ℕ) {t t′ : Turn} → SameTurn t t′ → SameStep (spoken z t) (spoken z t′)
-same-spoken z (same p x l o) = record { slave = twin (frame z p) l o; sent = refl }
-
-same-stepped : (k k′ : Memory) (j : Judged Phase) (m b : Bool) → Like k k′ → OpenTo k j → SameStep (stepped k j m b) (stepped k′ j m b)
-same-stepped k k′ (still s) m b l o = record { slave = twin s l o; sent = refl }
-same-stepped k k′ ends m b l o = record { slave = twin rest l tt; sent = refl }
-same-stepped k k′ (meant z p) m b l o = same-spoken z (same-turn k k′ p m b l o)
+same-taken : (z : ℕ) {t t′ : Turn} → SameTurn t t′ → SameStep (taken z t) (taken z t′)
+same-taken z (same p x l o) = record { slaves = twin (frame z p) l o; sent = refl }
 
 same-step : {s s′ : Slave} → Twin s s′ → (m b : Bool) → SameStep (step s m b) (step s′ m b)
 unfolding step
-same-step (twin {k} {k′} s l o) m b = same-stepped k k′ (judge begun s m) m b l (open-judged k s m o)
+same-step (twin {k} {k′} s l o) m b =
+    judged (Open k) tt (λ j. SameStep (stepped k j m b) (stepped k′ j m b))
+    (λ r h. record { slaves = twin r l h; sent = refl })
+    (record { slaves = twin rest l tt; sent = refl })
+    (λ z p h. same-taken z (same-turn k k′ p m b l h)) s m o
 
 record SamePass (r r′ : Passed) : Type 0 where
   slaves : Matched Twin (r .slaves) (r′ .slaves)
@@ -178,9 +152,10 @@ same-pass [] (s′ ∷ ss′) m b h = absurd h
 same-pass (s ∷ ss) [] m b h = absurd h
 same-pass (s ∷ ss) (s′ ∷ ss′) m b h =
     let t : SameStep (step s m b) (step s′ m b) = same-step (h .0) m b in
-    let r : SamePass (pass ss m (step s m b .sent)) (pass ss′ m (step s′ m b .sent))
-    = subst (λ x. SamePass (pass ss m (step s m b .sent)) (pass ss′ m x)) (t .sent) (same-pass ss ss′ m (step s m b .sent) (h .1)) in
-    record { slaves = (t .slave, r .slaves); answer = r .answer }
+    let x : Bool = step s m b .says .sent in
+    let r : SamePass (pass ss m x) (pass ss′ m (step s′ m b .says .sent))
+    = subst (λ y. SamePass (pass ss m x) (pass ss′ m y)) (t .sent) (same-pass ss ss′ m x (h .1)) in
+    record { slaves = (t .slaves, r .slaves); answer = r .answer }
 
 pub same-answers : (ss ss′ : List Slave) (row : List Bool) → Matched Twin ss ss′ → answers ss row ≡ answers ss′ row
 unfolding answers

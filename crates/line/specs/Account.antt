@@ -8,7 +8,9 @@ use lib.Dec.{ltb}
 use lib.ListN.{length, getElem?}
 use Rattle.line.specs.Limits.{headerColumns, lockLast, idCount}
 use Rattle.line.specs.Bits.{num, push}
-use Rattle.line.specs.Rest.{Timed, powerOn, rest, frame, Judged, still, ends, meant, judge}
+use Rattle.line.specs.Rest.{Timed, powerOn, judge}
+use Rattle.line.specs.Machine as machine
+use Rattle.line.specs.Machine.{go, gives, listing}
 use Rattle.line.specs.Division.{dataBits, topBit, fits, byteOf}
 use Rattle.line.specs.Header.{Header, wrong, access, command, header}
 use Rattle.line.specs.Memory.{Memory, allows, holds}
@@ -27,18 +29,13 @@ pub data Phase : Type 0 where
   carries : (write : Bool) → (id address nth left so-far : ℕ) → Phase
   askP : (write good : Bool) → (id address nth : ℕ) → Phase
 
--- What a column makes of the account: its next phase, and perhaps an entry.
-pub record Told : Type 0 where
-  pub next : Phase
-  pub says : Option Entry
+-- What a column makes of the account in a frame: its next phase, and perhaps an entry ..
+abbrev pub Told : Type 0
+Told = machine.Turn Phase (Option Entry)
 
--- On to the next phase, and no entry ..
-abbrev pub go : Phase → Told
-go p = record { next = p; says = none }
-
--- .. or with one.
-abbrev pub gives : Entry → Phase → Told
-gives e p = record { next = p; says = some e }
+-- .. and behind the timer.
+abbrev pub Step : Type 0
+Step = machine.Step Phase (Option Entry)
 
 -- Locks: "the far slave is ID 0, and slaves past the eighth have none": the ID's slave is the one at that place of the chain.
 abbrev pub slaveAt : List Memory → ℕ → Option Memory
@@ -89,28 +86,13 @@ tell c ks (askP write good id address nth) m =
     cond (good && moreAt (slaveAt ks id) write address nth) (go (byteS write id (address + 1) (nth + 1)))
     (gives (entry Kind.closed c id address 0) deaf)
 
--- What a column makes of the account behind the timer.
-pub record Step : Type 0 where
-  pub state : Timed Phase
-  pub says : Option Entry
-
--- A column told in a frame, with z zeros counted.
-abbrev pub told : ℕ → Told → Step
-told z t = record { state = frame z (t .next); says = t .says }
-
--- end: "the fourteenth zero after a frame was begun".
-abbrev pub stepped : (c : ℕ) → List Memory → Judged Phase → (m : Bool) → Step
-stepped c ks (still s) m = record { state = s; says = none }
-stepped c ks ends m = record { state = rest; says = some (entry Kind.end c 0 0 0) }
-stepped c ks (meant z p) m = told z (tell c ks p m)
-
 -- The phase after S.
 abbrev pub begun : Phase
 begun = locks 1 0
 
 -- One column of the account: the fourteenth zero is judged first.
 unfoldable pub step : (c : ℕ) → List Memory → Timed Phase → (m : Bool) → Step
-step c ks s m = stepped c ks (judge begun s m) m
+step c ks s m = listing c (λ p. tell c ks p m) (judge begun s m)
 
 -- The account along a chain: before each column it sees the memories as they stand.
 unfoldable pub along : List Slave → Timed Phase → (c : ℕ) → List Bool → List Entry

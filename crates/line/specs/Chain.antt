@@ -3,7 +3,7 @@ use mathlib.Core.Bool.{Bool, false}
 use mathlib.Core.List.{List, [], _∷_, map}
 use Rattle.line.specs.Rest.{powerOn}
 use Rattle.line.specs.Memory.{Memory}
-use Rattle.line.specs.Slave.{Slave, Step, slave, step}
+use Rattle.line.specs.Slave.{Slave, Step, slave, step, leaves}
 
 -- What a column makes of a chain: the slaves afterwards, and the bit that reaches the master.
 pub record Passed : Type 0 where
@@ -17,7 +17,7 @@ behind s r = record { slaves = s ∷ r .slaves; answer = r .answer }
 -- Chain: the bit "goes slave by slave to the master".
 unfoldable pub pass : List Slave → (m b : Bool) → Passed
 pass [] m b = record { slaves = []; answer = b }
-pass (s ∷ ss) m b = let t : Step = step s m b in behind (t .slave) (pass ss m (t .sent))
+pass (s ∷ ss) m b = let t : Step = step s m b in behind (leaves t) (pass ss m (t .says .sent))
 
 -- Chain: "In every column the bit enters at the far end as 0".
 abbrev pub column : List Slave → Bool → Passed

@@ -3,13 +3,14 @@
 --
 -- One column goes through them so:
 --
---   CDM bit ──► Rest (is it the fourteenth zero? is it S?) ──► a phase of Slave, Reader or Account
+--   CDM bit ──► Rest (is it the fourteenth zero? is it S?) ──► a turn of a phase of Slave, Reader or Account (Machine)
 --   0 ──► far slave ──► .. ──► near slave ──► CDS bit          Chain: every slave sees the CDM bit and its far neighbour's bit
 --   (CDM, CDS) ──► Reader ──► perhaps an Entry                 the list, from two rows alone
 --   (CDM, Memory of each slave) ──► Account ──► perhaps an Entry     the chain's own account, from no answer
 pub mod Limits
 pub mod Bits
 pub mod Rest
+pub mod Machine
 pub mod Division
 pub mod Header
 pub mod Memory

@@ -2,13 +2,15 @@
 -- It does not judge the answers at S, in columns 10 to 15 after S, at a 0 in a byte's S, or at a fourteenth zero.
 use mathlib.Core.Bool.{Bool, true, false, cond, _&&_, _||_, Bool·beq}
 use mathlib.Core.List.{List, [], _∷_}
-use mathlib.Core.Option.{Option, none, some}
+use mathlib.Core.Option.{Option}
 use Prim.Native.Nat.{ℕ, zero, suc, _+_, _-_, _*_}
 use lib.Dec.{ltb}
 use lib.ListN.{drop}
 use Rattle.line.specs.Limits.{headerColumns, idCount, lockFirst, lockLast, registerCount, byteLimit}
 use Rattle.line.specs.Bits.{num, push}
-use Rattle.line.specs.Rest.{Timed, powerOn, rest, frame, Judged, still, ends, meant, judge}
+use Rattle.line.specs.Rest.{Timed, powerOn, Judged, judge}
+use Rattle.line.specs.Machine as machine
+use Rattle.line.specs.Machine.{go, gives, listing}
 use Rattle.line.specs.Division.{dataBits, topBit, fits, byteOf}
 use Rattle.line.specs.Header.{Header, wrong, access, command, header}
 use Rattle.line.specs.Entries.{Kind, Entry, entry, note}
@@ -43,18 +45,13 @@ pub data Phase : Type 0 where
   writes : (id address nth left so-far : ℕ) → (echoed : Bool) → Phase
   askP : (write : Bool) → (id address nth : ℕ) → Phase
 
--- What a column makes of the reader: its next phase, and perhaps an entry.
-pub record Look : Type 0 where
-  pub next : Phase
-  pub says : Option Entry
+-- What a column makes of the reader in a frame: its next phase, and perhaps an entry ..
+abbrev pub Look : Type 0
+Look = machine.Turn Phase (Option Entry)
 
--- On to the next phase, and no entry ..
-abbrev pub go : Phase → Look
-go p = record { next = p; says = none }
-
--- .. or with one.
-abbrev pub gives : Entry → Phase → Look
-gives e p = record { next = p; says = some e }
+-- .. and behind the timer.
+abbrev pub Step : Type 0
+Step = machine.Step Phase (Option Entry)
 
 -- lock: "value = how many of IDL0..7 are 1, or 9 if IDL8 is 1 after eight". lockodd: "any other lock pattern; deaf".
 unfoldable pub locked : (c column so-far : ℕ) → Locks → Look
@@ -131,20 +128,9 @@ look c (askP write id address nth) m false =
     cond (ltb (address + 1) registerCount && ltb nth byteLimit) (go (byteS write id (address + 1) (nth + 1)))
     (gives (entry Kind.odd c id address 4) deaf)
 
--- What a column makes of the reader behind the timer.
-pub record Step : Type 0 where
-  pub state : Timed Phase
-  pub says : Option Entry
-
--- A look taken in a frame, with z zeros counted.
-abbrev pub looked : ℕ → Look → Step
-looked z l = record { state = frame z (l .next); says = l .says }
-
--- end: "the fourteenth zero after a frame was begun". "A deaf reader still gives `end`."
+-- "A deaf reader still gives `end`."
 abbrev pub stepped : (c : ℕ) → Judged Phase → (m x : Bool) → Step
-stepped c (still s) m x = record { state = s; says = none }
-stepped c ends m x = record { state = rest; says = some (entry Kind.end c 0 0 0) }
-stepped c (meant z p) m x = looked z (look c p m x)
+stepped c j m x = listing c (λ p. look c p m x) j
 
 -- The phase after S: no lock seen, no header bit.
 abbrev pub begun : Phase

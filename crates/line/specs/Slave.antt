@@ -5,7 +5,8 @@ use Prim.Native.Nat.{ℕ, zero, suc, _+_, _-_}
 use lib.Dec.{ltb, eqb}
 use Rattle.line.specs.Limits.{headerColumns, lockFirst, lockLast, registerCount, byteLimit}
 use Rattle.line.specs.Bits.{bit, push}
-use Rattle.line.specs.Rest.{Timed, rest, frame, Judged, still, ends, meant, judge}
+use Rattle.line.specs.Rest.{Timed, Judged, judge}
+use Rattle.line.specs.Machine as machine
 use Rattle.line.specs.Division.{dataBits, topBit, word, fits, byteOf}
 use Rattle.line.specs.Header.{Header, wrong, access, command, header}
 use Rattle.line.specs.Memory.{Memory, allows, holds, stored}
@@ -23,15 +24,26 @@ pub data Phase : Type 0 where
   takes : (address nth left so-far : ℕ) → Phase
   askP : (write good : Bool) → (address nth : ℕ) → Phase
 
--- What a column makes of a slave: its next phase, the bit it sends, its memory.
-pub record Turn : Type 0 where
-  pub next : Phase
+-- What a slave says in a column: the bit it sends, and its memory afterwards.
+pub record Reply : Type 0 where
   pub sent : Bool
   pub memory : Memory
 
--- A turn by its three parts.
+-- A reply by its two parts.
+abbrev pub reply : Bool → Memory → Reply
+reply b k = record { sent = b; memory = k }
+
+-- What a column makes of a slave in a frame ..
+abbrev pub Turn : Type 0
+Turn = machine.Turn Phase Reply
+
+-- .. by its three parts ..
 abbrev pub turn : Phase → Bool → Memory → Turn
-turn p b k = record { next = p; sent = b; memory = k }
+turn p b k = record { next = p; says = reply b k }
+
+-- .. and behind the timer.
+abbrev pub Step : Type 0
+Step = machine.Step Phase Reply
 
 -- What a lock column makes of a slave: the number it holds then, and the bit it sends.
 pub record Lock : Type 0 where
@@ -110,20 +122,9 @@ pub record Slave : Type 0 where
 abbrev pub slave : Memory → Timed Phase → Slave
 slave k s = record { memory = k; state = s }
 
--- What a column makes of it: the slave afterwards, and the bit that goes on towards the master.
-pub record Step : Type 0 where
-  pub slave : Slave
-  pub sent : Bool
-
--- A turn taken in a frame, with z zeros counted.
-abbrev pub spoken : ℕ → Turn → Step
-spoken z t = record { slave = slave (t .memory) (frame z (t .next)); sent = t .sent }
-
 -- Chain: "A slave with nothing to say passes on the bit it sees".
 abbrev pub stepped : Memory → Judged Phase → (m b : Bool) → Step
-stepped k (still s) m b = record { slave = slave k s; sent = b }
-stepped k ends m b = record { slave = slave k rest; sent = b }
-stepped k (meant z p) m b = spoken z (speak k p m b)
+stepped k j m b = machine.stepped (reply b k) (reply b k) (λ p. speak k p m b) j
 
 -- Start: "All numbers are dropped there and given out afresh in each frame."
 abbrev pub begun : Phase
@@ -132,3 +133,7 @@ begun = locks 1 0 none
 -- Chain: one column of one slave; the fourteenth zero is judged first.
 unfoldable pub step : Slave → (m b : Bool) → Step
 step s m b = stepped (s .memory) (judge begun (s .state) m) m b
+
+-- The slave that a step leaves.
+abbrev pub leaves : Step → Slave
+leaves t = slave (t .says .memory) (t .state)

@@ -10,12 +10,13 @@ use lib.Dec.{ltb}
 use lib.ListN.{length, length-drop, drop}
 use Rattle.line.specs.Limits.{headerColumns, lockFirst, lockLast, registerCount, byteLimit}
 use Rattle.line.specs.Bits.{num, bit, push, rowOf}
-use Rattle.line.specs.Rest.{Timed, power, rest, frame, powerOn, Judged, still, ends, meant, waiting, running, timer, judge}
+use Rattle.line.specs.Rest.{Timed, powerOn}
 use Rattle.line.specs.Division.{headerBits, checkWidth, fits, byteOf}
 use Rattle.line.specs.Header.{Header, wrong, access, command, header}
 use Rattle.line.specs.Entries.{Kind, table, Entry, entry}
-use Rattle.line.specs.Reader.{Locks, ones, upto, mixed, seen, shown, Phase, deaf, locks, head, askR, askW, byteS, reads, writes, askP, Look, locked, headed, oddAnswer, asked, readKind, writeKind, look, Step, stepped, begun, step, Column, col, columns, entries, listFrom}
+use Rattle.line.specs.Reader.{Locks, ones, upto, mixed, seen, shown, Phase, deaf, locks, head, askR, askW, byteS, reads, writes, askP, Look, locked, headed, oddAnswer, asked, readKind, writeKind, look, step, Column, col, columns, entries, listFrom}
 use Rattle.line.proofs.Every.{Every, IfAny, either, tested, every-note}
+use Rattle.line.proofs.Machine.{At, keeps}
 use Rattle.line.proofs.Text.{both}
 use Rattle.line.proofs.Late.{in-step}
 use Rattle.read.specs.Read.{listOf}
@@ -146,48 +147,17 @@ good-look c (askP write id address nth) m false h =
     (λ q. rw q (tt, good-entry c id address (h .0) (h .1) Kind.odd 4 (omega arith)))
 
 -- The same behind the timer.
-abbrev HeldAt : Timed Phase → Type 0
-HeldAt (power z) = Unit {0}
-HeldAt rest = Unit {0}
-HeldAt (frame z p) = Held p
-
-abbrev Ready : Judged Phase → Type 0
-Ready (still s) = HeldAt s
-Ready ends = Unit {0}
-Ready (meant z p) = Held p
-
-ready-waiting : (o : Option ℕ) → Ready (waiting o)
-ready-waiting none = tt
-ready-waiting (some z) = tt
-
-ready-running : (o : Option ℕ) (p : Phase) → Held p → Ready (running o p)
-ready-running none p h = tt
-ready-running (some z) p h = h
-
-ready : (s : Timed Phase) (m : Bool) → HeldAt s → Ready (judge begun s m)
-unfolding judge
-ready (power z) m h = ready-waiting (timer z m)
-ready rest false h = tt
-ready rest true h = (omega arith, tt)
-ready (frame z p) m h = ready-running (timer z m) p h
-
-abbrev Stepped : Step → Type 0
-Stepped s = HeldAt (s .state) × IfAny Bytes (s .says)
-
-good-stepped : (c : ℕ) (j : Judged Phase) (m x : Bool) → Ready j → Stepped (stepped c j m x)
-good-stepped c (still s) m x h = (h, tt)
-good-stepped c ends m x h = (tt, entry-bytes Kind.end c 0 0 0 (omega arith) (omega arith) (omega arith))
-good-stepped c (meant z p) m x h = good-look c p m x h
-
-good-step : (c : ℕ) (s : Timed Phase) (m x : Bool) → HeldAt s → Stepped (step c s m x)
+good-step : (c : ℕ) (s : Timed Phase) (m x : Bool) → At Held s → At Held (step c s m x .state) × IfAny Bytes (step c s m x .says)
 unfolding step
-good-step c s m x h = good-stepped c (judge begun s m) m x (ready s m h)
+good-step c s m x h =
+    keeps Held (omega arith, tt) (IfAny Bytes) tt (entry-bytes Kind.end c 0 0 0 (omega arith) (omega arith) (omega arith))
+    (λ p g. good-look c p m x g) s m h
 
 -- An entry of six bytes: a column below the limit, and fields that are bytes.
 abbrev pub Small : (limit : ℕ) → Entry → Type 0
 Small limit e = (e .column < limit) × Bytes e
 
-small-entries : (s : Timed Phase) (c : ℕ) (cs : List Column) (limit : ℕ) → HeldAt s → c + length cs ≤ limit → Every (Small limit) (entries s c cs)
+small-entries : (s : Timed Phase) (c : ℕ) (cs : List Column) (limit : ℕ) → At Held s → c + length cs ≤ limit → Every (Small limit) (entries s c cs)
 unfolding entries
 small-entries s c [] limit h l = tt
 small-entries s c (col m x ∷ cs) limit h l =

@@ -9,7 +9,8 @@ use Rattle.line.specs.Limits.{headerColumns, idCount, lockFirst, lockLast, regi
 use Rattle.line.specs.Bits.{push, bit}
 use Rattle.line.specs.Division.{headerBits, checkWidth, fits}
 use Rattle.line.specs.Header.{header}
-use Rattle.line.specs.Reader.{Locks, ones, upto, mixed, Phase, deaf, locks, head, askR, Look, go, locked, headed, look}
+use Rattle.line.specs.Machine.{go}
+use Rattle.line.specs.Reader.{Locks, ones, upto, mixed, Phase, deaf, locks, head, askR, Look, locked, headed, look}
 use Rattle.line.specs.Reader as Reader
 use Rattle.reader.specs.Code.{lockBound, said, nothing, seenBy, seen}
 

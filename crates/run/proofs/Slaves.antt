@@ -11,6 +11,7 @@ use lib.Seq.{drop-cons, take-all, take-suc-set, drop-set-lt}
 use Rattle.line.specs.Bits.{num, bitOf, rowOf}
 use Rattle.line.specs.Memory.{stored}
 use Rattle.line.specs.Slave as line
+use Rattle.line.proofs.Dress.{stepTo}
 use Rattle.slave.specs.Code.{stateOf, placeOf, Shows, Steps}
 use Rattle.slave.specs.declared.Slave.{Slave}
 use Rattle.slave.specs.declared.Seen.{Seen}
@@ -25,7 +26,7 @@ bool-num false = refl
 pub own-step : (registers rights : List ℕ) (s : Slave) (p : ℕ) (m b : Bool) (r : Turn) → p ≡ placeOf s
     → Steps s (record { master = m; far = b; right = getD rights p 0; byte = getD registers p 0 }) r
     → line.step (line.slave (memoryBy registers rights) (stateOf s)) m b
-    ≡ record { slave = line.slave (memoryBy (set registers p (r .byte)) rights) (stateOf (r .next)); sent = r .sent }
+    ≡ stepTo (memoryBy (set registers p (r .byte)) rights) (stateOf (r .next)) (r .sent)
 unfolding stored
 own-step registers rights s p m b r here steps =
     let seen : Seen = record { master = m; far = b; right = getD rights p 0; byte = getD registers p 0 } in
@@ -34,14 +35,17 @@ own-step registers rights s p m b r here steps =
     (steps .over (memoryBy registers rights) (subst (λ (q : ℕ). Shows (memoryBy registers rights) q seen) here shows))
 
 -- A column: what is sent goes over to what was sent.
-module _ (s s′ : line.Slave) (b : Bool) (cdm cds : List ℕ) (i : ℕ) (small : i < length cdm) (room : i < length cds)
-    (stepped : line.step s (bitOf (getD cdm i 0)) (bitOf (getD cds i 0)) ≡ record { slave = s′; sent = b }) where
-  behind : drop (suc i) (set cds i (boolByte b)) ≡ drop (suc i) cds
-  behind = drop-set-lt (suc i) cds i (boolByte b) (omega arith)
+module _ (s : line.Slave) (t : line.Step) (cdm cds : List ℕ) (i : ℕ) (small : i < length cdm) (room : i < length cds)
+    (stepped : line.step s (bitOf (getD cdm i 0)) (bitOf (getD cds i 0)) ≡ t) where
+  abbrev sent : Bool
+  sent = t .says .sent
+
+  behind : drop (suc i) (set cds i (boolByte sent)) ≡ drop (suc i) cds
+  behind = drop-set-lt (suc i) cds i (boolByte sent) (omega arith)
 
   pub sent-next : take i cds ++ map num (sentBy s (rowOf (drop i cdm)) (rowOf (drop i cds)))
-      ≡ take (i + 1) (set cds i (boolByte b))
-      ++ map num (sentBy s′ (rowOf (drop (i + 1) cdm)) (rowOf (drop (i + 1) (set cds i (boolByte b)))))
+      ≡ take (i + 1) (set cds i (boolByte sent))
+      ++ map num (sentBy (line.leaves t) (rowOf (drop (i + 1) cdm)) (rowOf (drop (i + 1) (set cds i (boolByte sent)))))
   unfolding rowOf sentBy
   sent-next =
       rw (
@@ -50,17 +54,17 @@ module _ (s s′ : line.Slave) (b : Bool) (cdm cds : List ℕ) (i : ℕ) (small 
         stepped,
         add-one,
         behind,
-        take-suc-set cds i (boolByte b) room,
+        take-suc-set cds i (boolByte sent) room,
         append-assoc,
-        bool-num b,
+        bool-num sent,
       )
 
   pub left-next : leftBy s (rowOf (drop i cdm)) (rowOf (drop i cds))
-      ≡ leftBy s′ (rowOf (drop (i + 1) cdm)) (rowOf (drop (i + 1) (set cds i (boolByte b))))
+      ≡ leftBy (line.leaves t) (rowOf (drop (i + 1) cdm)) (rowOf (drop (i + 1) (set cds i (boolByte sent))))
   unfolding rowOf leftBy
   left-next =
       rw (drop-cons cdm i 0 small, drop-cons cds i 0 room, add-one, behind)
-      (ap (λ (t : line.Step). leftBy (t .slave) (rowOf (drop (suc i) cdm)) (rowOf (drop (suc i) cds))) stepped)
+      (ap (λ (r : line.Step). leftBy (line.leaves r) (rowOf (drop (suc i) cdm)) (rowOf (drop (suc i) cds))) stepped)
 
 -- Past the last column.
 pub passed : (rights registers cdm cds registers′ cds′ : List ℕ) (s : Slave) (i : ℕ) → length cdm ≤ i → length cds′ ≤ i

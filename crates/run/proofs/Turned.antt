@@ -23,15 +23,15 @@ sent-column : (ss : List line.Slave) (m b : Bool) (ms bs : List Bool)
 unfolding allSent sentBy pass
 sent-column [] m b ms bs = refl
 sent-column (s ∷ ss) m b ms bs =
-    sent-column ss m (line.step s m b .sent) ms (sentBy (line.step s m b .slave) ms bs)
+    sent-column ss m (line.step s m b .says .sent) ms (sentBy (line.leaves (line.step s m b)) ms bs)
 
 left-column : (ss : List line.Slave) (m b : Bool) (ms bs : List Bool)
     → allLeft ss (m ∷ ms) (b ∷ bs) ≡ allLeft (pass ss m b .slaves) ms bs
 unfolding allLeft sentBy leftBy pass
 left-column [] m b ms bs = refl
 left-column (s ∷ ss) m b ms bs =
-    ap (λ (l : List line.Slave). leftBy (line.step s m b .slave) ms bs ∷ l)
-    (left-column ss m (line.step s m b .sent) ms (sentBy (line.step s m b .slave) ms bs))
+    ap (λ (l : List line.Slave). leftBy (line.leaves (line.step s m b)) ms bs ∷ l)
+    (left-column ss m (line.step s m b .says .sent) ms (sentBy (line.leaves (line.step s m b)) ms bs))
 
 -- No column.
 sent-none : (ss : List line.Slave) → allSent ss [] [] ≡ []

@@ -17,13 +17,13 @@ use Rattle.run.specs.Run.{memoriesOf, registersOf}
 unfoldable pub sentBy : line.Slave → (ms bs : List Bool) → List Bool
 sentBy s [] bs = []
 sentBy s (m ∷ ms) [] = []
-sentBy s (m ∷ ms) (b ∷ bs) = let t : line.Step = line.step s m b in t .sent ∷ sentBy (t .slave) ms bs
+sentBy s (m ∷ ms) (b ∷ bs) = let t : line.Step = line.step s m b in t .says .sent ∷ sentBy (line.leaves t) ms bs
 
 -- .. and what it is then.
 unfoldable pub leftBy : line.Slave → (ms bs : List Bool) → line.Slave
 leftBy s [] bs = s
 leftBy s (m ∷ ms) [] = s
-leftBy s (m ∷ ms) (b ∷ bs) = leftBy (line.step s m b .slave) ms bs
+leftBy s (m ∷ ms) (b ∷ bs) = leftBy (line.leaves (line.step s m b)) ms bs
 
 -- A slave's memory, of its registers and rights ..
 abbrev pub memoryBy : (registers rights : List ℕ) → Memory

@@ -133,7 +133,7 @@ pub record Shows (k : Memory) (place : ℕ) (seen : Seen) : Type 0 where
 
 -- The step of line's slave that a turn stands for: the byte stands at the place, and no other changes.
 abbrev pub stepOf : Memory → (place : ℕ) → Turn → line.Step
-stepOf k place r = record { slave = line.slave (stored k place (r .byte)) (stateOf (r .next)); sent = r .sent }
+stepOf k place r = record { state = stateOf (r .next); says = line.reply (r .sent) (stored k place (r .byte)) }
 
 -- What a kind's function promises, of a column that is not the fourteenth zero.
 pub record Meets (kind : Kind) (zeros : ℕ) (b : Body) (seen : Seen) (r : Turn) : Type 0 where

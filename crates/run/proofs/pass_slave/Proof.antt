@@ -93,8 +93,8 @@ loop-again c =
       search needs,
       rw (w .2) (l .inv .1),
       rw (w .3, length-set) (l .inv .2),
-      rw (w .2, w .3, w .4, w .1 .ensures) (sym (sent-next _ _ _ cdm (l .cds) (l .i) small room own) ∙ l .inv .3),
-      rw (w .2, w .3, w .4, w .1 .ensures) (sym (left-next _ _ _ cdm (l .cds) (l .i) small room own) ∙ l .inv .4),
+      rw (w .2, w .3, w .4, w .1 .ensures) (sym (sent-next _ _ cdm (l .cds) (l .i) small room own) ∙ l .inv .3),
+      rw (w .2, w .3, w .4, w .1 .ensures) (sym (left-next _ _ cdm (l .cds) (l .i) small room own) ∙ l .inv .4),
     ))
     (λ w.
     let place = w .1 in
@@ -103,8 +103,8 @@ loop-again c =
       search needs,
       rw (w .7, length-set) (l .inv .1),
       rw (w .8, length-set) (l .inv .2),
-      rw (w .7, w .8, w .9) (sym (sent-next _ _ _ cdm (l .cds) (l .i) small room own) ∙ l .inv .3),
-      rw (w .7, w .8, w .9) (sym (left-next _ _ _ cdm (l .cds) (l .i) small room own) ∙ l .inv .4),
+      rw (w .7, w .8, w .9) (sym (sent-next _ _ cdm (l .cds) (l .i) small room own) ∙ l .inv .3),
+      rw (w .7, w .8, w .9) (sym (left-next _ _ cdm (l .cds) (l .i) small room own) ∙ l .inv .4),
     ))
     (c .if1 .came)
 
