@@ -10,42 +10,22 @@ use Rattle.line.specs.Rest.{Timed, power, rest, frame, waiting, running, timer,
 use Rattle.line.specs.Memory.{Memory}
 use Rattle.line.specs.Slave as line
 use Rattle.line.specs.Slave.{deaf, locks, head, askR, askW, byteS, sends, takes, askP}
+use Rattle.line.proofs.Every.{looked-up}
 use Rattle.line.proofs.Dress.{stepTo}
-use Rattle.slave.specs.Code.{timed, stateBy, unsaid, heardBy, waitedBy, saysNothing}
+use Rattle.machine.specs.Zeros.{timed}
+use Rattle.slave.specs.Code.{stateBy, unsaid, heardBy, waitedBy, saysNothing}
 use Rattle.slave.specs.declared.Kind.{Kind}
 use Rattle.slave.specs.declared.Kind.the-variants.{Power, Rest, Deaf, Locks, Head, AskR, AskW, ByteS, Sends, Takes, AskP}
 use Rattle.slave.specs.declared.Body.{Body}
 use Rattle.slave.proofs.Kind.{the-type}
 
 -- The states in which it has nothing to say: power-on, rest, deaf.
-module _ (k : Memory) (m b : Bool) where
-  waiting-passes : (z : Option ℕ) → line.stepped k (waiting z) m b ≡ stepTo k (unsaid (waiting z)) b
-  waiting-passes none = refl
-  waiting-passes (some z) = refl
-
-  deafness-passes : (z : Option ℕ) → line.stepped k (running z line.deaf) m b ≡ stepTo k (unsaid (running z line.deaf)) b
-  unfolding line.speak
-  deafness-passes none = refl
-  deafness-passes (some z) = refl
-
-  power-passes : (z : ℕ) → line.step (line.slave k (power z)) m b ≡ stepTo k (heardBy (power z) m) b
-  unfolding line.step judge heardBy
-  power-passes z = waiting-passes (timer z m)
-
-  deaf-passes : (z : ℕ) → line.step (line.slave k (frame z line.deaf)) m b ≡ stepTo k (heardBy (frame z line.deaf) m) b
-  unfolding line.step judge heardBy
-  deaf-passes z = deafness-passes (timer z m)
-
-rest-passes : (k : Memory) (m b : Bool) → line.step (line.slave k rest) m b ≡ stepTo k (heardBy rest m) b
-unfolding line.step judge heardBy
-rest-passes k true b = refl
-rest-passes k false b = refl
-
--- All of them.
 pub passes-on : (k : Memory) (s : Timed line.Phase) (m b : Bool) → saysNothing s ≡ true → line.step (line.slave k s) m b ≡ stepTo k (heardBy s m) b
-passes-on k (power z) m b e = power-passes k m b z
-passes-on k rest m b e = rest-passes k m b
-passes-on k (frame z deaf) m b e = deaf-passes k m b z
+unfolding line.step line.speak judge heardBy
+passes-on k (power z) m b e = looked-up (timer z m) (λ q. rw q) (λ z′ q. rw q)
+passes-on k rest true b e = refl
+passes-on k rest false b e = refl
+passes-on k (frame z deaf) m b e = looked-up (timer z m) (λ q. rw q) (λ z′ q. rw q)
 passes-on k (frame z (locks column so-far number)) m b e = absurd (false≢true e)
 passes-on k (frame z (head column so-far number)) m b e = absurd (false≢true e)
 passes-on k (frame z (askR address)) m b e = absurd (false≢true e)

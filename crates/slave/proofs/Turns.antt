@@ -1,17 +1,16 @@
 -- Turns: what has to be shown of a branch of a slave's step, where it stores nothing and where it stores. Assumes nothing.
-use mathlib.Core.Path.{_≡_, refl, sym}
-use mathlib.Core.Bool.{Bool, true, false, cond}
-use mathlib.Core.Option.{none, some, Option·none-ne-some}
+use mathlib.Core.Path.{_≡_, refl}
+use mathlib.Core.Bool.{Bool}
 use Prim.Native.Nat.{ℕ, _≤_, _<_}
-use borrow.Author.Tests.{lt-ltb, le-ltb}
-use lib.Dec.{ltb}
 use lib.Seq.{set-getD}
 use Rattle.line.specs.Limits.{restZeros}
-use Rattle.line.specs.Rest.{Timed, power, rest, frame, timer, judge}
+use Rattle.line.specs.Rest.{Timed, power, rest, frame}
 use Rattle.line.specs.Memory.{Memory, stored}
 use Rattle.line.specs.Slave as line
 use Rattle.line.proofs.Dress.{stepTo}
-use Rattle.slave.specs.Code.{placeBy, formBy, timed, stateBy, placeOf, judgedAt, turned, Shows, Meets, Steps}
+use Rattle.machine.specs.Zeros.{zerosAfter, judgedAt, endedAt}
+use Rattle.machine.proofs.Zeros.{judge-on, judge-out}
+use Rattle.slave.specs.Code.{placeBy, formBy, stateBy, placeOf, turned, Shows, Meets, Steps}
 use Rattle.slave.specs.declared.Kind.{Kind}
 use Rattle.slave.specs.declared.Kind.the-variants.{Rest}
 use Rattle.slave.specs.declared.Body.{Body}
@@ -28,7 +27,7 @@ module _ {kind : Kind} {zeros : ℕ} {b : Body} {seen : Seen} {kind′ : Kind} {
   -- A turn that stores nothing.
   pub quiet : r ≡ turned kind′ zeros′ b′ sent (seen .byte)
       → ((k : Memory) → Shows k (placeBy b) seen
-      → line.stepped k (judgedAt (stateBy kind zeros b) (seen .master)) (seen .master) (seen .far)
+      → line.stepped k (judgedAt line.begun (stateBy kind zeros b) (seen .master)) (seen .master) (seen .far)
       ≡ stepTo k (stateBy kind′ zeros′ b′) sent)
       → Meets kind zeros b seen r
   quiet e law = record { over = λ k s. rw (e, kept k (placeBy b) seen s) (law k s) }
@@ -48,37 +47,27 @@ module _ {kind : Kind} {zeros : ℕ} {b : Body} {seen : Seen} {kind′ : Kind} {
       → Meets kind zeros b seen r
   stores e from to law = record { over = λ k s. rw (e, from, to, law k) }
 
--- A column by the zeros counted: not the fourteenth zero ..
-counts : (s : Timed line.Phase) (z : ℕ) {z′ : ℕ} (m : Bool) → timer z m ≡ some z′
-    → judge line.begun (timed z s) m ≡ judgedAt (timed z′ s) m
-unfolding judge
-counts (power _) z m e = rw e
-counts rest z true e = refl
-counts rest z false e = refl
-counts (frame _ p) z m e = rw e
+-- The fourteenth zero ends anything.
+ended : (k : Memory) (s : Timed line.Phase) (m b : Bool) → line.stepped k (endedAt s) m b ≡ stepTo k rest b
+ended k (power z) m b = refl
+ended k rest m b = refl
+ended k (frame z p) m b = refl
 
--- .. and the fourteenth, which ends anything.
-ended : (k : Memory) (s : Timed line.Phase) (z : ℕ) (m b : Bool) → timer z m ≡ none
-    → line.stepped k (judge line.begun (timed z s) m) m b ≡ stepTo k rest b
-unfolding judge timer
-ended k (power _) z m b e = rw e
-ended k rest z true b e = absurd (Option·none-ne-some _ (sym e))
-ended k rest z false b e = refl
-ended k (frame _ p) z m b e = rw e
+-- A column by the zeros counted.
+module _ (s : Slave) (seen : Seen) (r : Turn) {z′ : ℕ} (e : z′ ≡ zerosAfter (s .zeros) (seen .master)) where
+  abbrev form : Timed line.Phase
+  form = formBy (s .kind) (s .body)
 
-module _ (s : Slave) (seen : Seen) (r : Turn) {z′ : ℕ}
-    (e : timer (s .zeros) (seen .master) ≡ cond (ltb z′ restZeros) (some z′) none) where
   pub steps-on : z′ < restZeros → Meets (s .kind) z′ (s .body) seen r → Steps s seen r
   unfolding line.step
   steps-on h meets =
-      let on : timer (s .zeros) (seen .master) ≡ some z′ = rw (lt-ltb z′ restZeros h) at e in
-      record { over = λ k shows. rw (counts (formBy (s .kind) (s .body)) (s .zeros) (seen .master) on) (meets .over k shows) }
+      record { over = λ k shows. rw (judge-on line.begun (s .zeros) form (seen .master) e h) (meets .over k shows) }
 
   pub steps-end : restZeros ≤ z′ → r ≡ turned Rest 0 (s .body) (seen .far) (seen .byte) → Steps s seen r
   unfolding line.step
   steps-end h t =
       record {
         over = λ k shows.
-            rw (t, kept k (placeOf s) seen shows)
-            (ended k (formBy (s .kind) (s .body)) (s .zeros) (seen .master) (seen .far) (rw (le-ltb z′ restZeros h) at e));
+            rw (t, kept k (placeOf s) seen shows, judge-out line.begun (s .zeros) form (seen .master) e h)
+            (ended k form (seen .master) (seen .far));
       }

@@ -14,6 +14,7 @@ use Rattle.line.specs.Header.{header}
 use Rattle.line.specs.Memory.{Memory, stored}
 use Rattle.line.specs.Slave as line
 use Rattle.line.specs.Slave.{deaf, locks, head, askR, askW, byteS, sends, takes, askP}
+use Rattle.machine.specs.Zeros.{timed, judgedAt}
 use Rattle.slave.specs.declared.Kind.{Kind}
 use Rattle.slave.specs.declared.Kind.the-variants.{Power, Rest, Deaf, Locks, Head, AskR, AskW, ByteS, Sends, Takes, AskP}
 use Rattle.slave.specs.declared.Body.{Body}
@@ -64,22 +65,9 @@ formBy Sends b = frame 0 (line.sends (placeBy b) (b .nth) (leftOf b) (b .word))
 formBy Takes b = frame 0 (line.takes (placeBy b) (b .nth) (leftOf b) (b .word))
 formBy AskP b = frame 0 (line.askP (b .write) (b .good) (before (placeBy b)) (b .nth))
 
--- .. and with as many zeros in a row as it saw just now, where they count.
-abbrev pub timed : (zeros : ℕ) → Timed line.Phase → Timed line.Phase
-timed z (power _) = power z
-timed z rest = rest
-timed z (frame _ p) = frame z p
-
--- .. together.
+-- .. and with as many zeros in a row as it saw just now.
 abbrev pub stateBy : Kind → (zeros : ℕ) → Body → Timed line.Phase
 stateBy kind zeros b = timed zeros (formBy kind b)
-
--- What a column that is not the fourteenth zero is to a slave whose zeros are counted already.
-abbrev pub judgedAt : Timed line.Phase → (m : Bool) → Judged line.Phase
-judgedAt (power z) m = still (power z)
-judgedAt rest true = still (frame 0 line.begun)
-judgedAt rest false = still rest
-judgedAt (frame z p) m = meant z p
 
 -- What a slave of the code stands for ..
 abbrev pub stateOf : Slave → Timed line.Phase
@@ -138,7 +126,7 @@ stepOf k place r = record { state = stateOf (r .next); says = line.reply (r .sen
 -- What a kind's function promises, of a column that is not the fourteenth zero.
 pub record Meets (kind : Kind) (zeros : ℕ) (b : Body) (seen : Seen) (r : Turn) : Type 0 where
   pub over : (k : Memory) → Shows k (placeBy b) seen
-      → line.stepped k (judgedAt (stateBy kind zeros b) (seen .master)) (seen .master) (seen .far) ≡ stepOf k (placeBy b) r
+      → line.stepped k (judgedAt line.begun (stateBy kind zeros b) (seen .master)) (seen .master) (seen .far) ≡ stepOf k (placeBy b) r
 
 -- What step promises: the step of line's slave, over any memory that shows what was seen at its place.
 pub record Steps (s : Slave) (seen : Seen) (r : Turn) : Type 0 where

@@ -1,18 +1,13 @@
 // One slave of the chain: a column in, its next state, the bit that it sends and the byte at its place out (01, Columns).
 ghost use mathlib.Core.Path.{_≡_};
 ghost use mathlib.Core.Bool.{cond};
-ghost use mathlib.Core.Option.{some, none};
 ghost use Prim.Native.Nat.{_<_};
-ghost use lib.Dec.{ltb};
-ghost use Rattle.line.specs.Limits.{restZeros, registerCount};
+ghost use Rattle.line.specs.Limits.{registerCount};
 ghost use Rattle.line.specs.Bits.{num, bit};
 ghost use Rattle.line.specs.Rest.{powerOn, frame, timer};
 ghost use Rattle.line.specs.Division.{dataBits, word};
 ghost use Rattle.line.specs.Slave.{begun};
 ghost use Rattle.slave.specs.Code.{stateOf, stateBy, placeOf, saysNothing, heardBy, waitedBy, turned, nextColumn, nextAddress, lockOf, Meets, Steps, lockedAs, CalledAs, goesOn};
-
-// Rest: "Fourteen CDM zeros in a row end anything, at any place."
-const REST: u64 = 14;
 
 // Header: "Fifteen columns after S".
 const HEADER: u64 = 15;
@@ -162,25 +157,12 @@ impl Slave {
     {
         let kind = self.kind;
         let body = self.body;
-        let zeros = counted(self.zeros, seen.master);
-        if zeros < REST {
+        let zeros = machine::counted(self.zeros, seen.master);
+        if zeros < machine::REST {
             meant(kind, zeros, body, seen)
         } else {
             said(Kind::Rest, 0, body, seen.far, seen.byte)
         }
-    }
-}
-
-// The zeros in a row after one column more.
-fn counted(zeros: u64, master: bool) -> u64
-    ensures { λ r. ⌜ timer zeros master ≡ cond (ltb r restZeros) (some r) none ⌝ }
-{
-    if master {
-        0
-    } else if zeros < REST - 1 {
-        zeros + 1
-    } else {
-        REST
     }
 }
 
@@ -240,8 +222,8 @@ fn waited(slave: Slave, master: bool) -> Slave
 {
     let kind = slave.kind;
     let body = slave.body;
-    let zeros = counted(slave.zeros, master);
-    if zeros < REST {
+    let zeros = machine::counted(slave.zeros, master);
+    if zeros < machine::REST {
         Slave {
             kind: kind,
             zeros: zeros,

@@ -1,7 +1,7 @@
 -- `slave::waited` meets its contract: the zeros are counted, and the fourteenth brings rest. Assumes nothing.
 use mathlib.Core.Path.{sym}
-use borrow.Author.Tests.{lt-ltb, le-ltb}
 use borrow.Author.Needs.{needs}
+use Rattle.machine.proofs.Zeros.{timer-on, timer-out}
 use Rattle.slave.specs.Code.{formBy}
 use Rattle.slave.proofs.Silence.{timed-anew}
 use Rattle.slave.proofs.waited.Statement.{statement}
@@ -14,11 +14,11 @@ returns : tie.Need-returns
 returns c =
     let slave = c .before .before .before .args .slave in
     let zeros = c .before .counted in
-    rw (zeros .ensures, lt-ltb _ _ (c .if1 .taken))
+    rw (timer-on (slave .zeros) _ (zeros .ensures) (c .if1 .taken))
     (sym (timed-anew (zeros .result) (slave .zeros) (formBy (slave .kind) (slave .body))))
 
 returns-2 : tie.Need-returns-2
-returns-2 c = rw (c .before .counted .ensures, le-ltb _ _ (c .if1 .left))
+returns-2 c = rw (timer-out _ _ (c .before .counted .ensures) (c .if1 .left))
 
 pub waited-spec : {M : Type 1} → statement M
 waited-spec = tie.close (tie.spec counted-requires returns returns-2)

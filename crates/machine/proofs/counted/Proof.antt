@@ -1,0 +1,27 @@
+-- `machine::counted` meets its contract: the zeros are counted up to the fourteenth. Assumes nothing.
+use native.Mathlib.Omega.{arith}
+use borrow.Author.Needs.{needs}
+use Rattle.machine.specs.Zeros.{zerosAfter}
+use Rattle.machine.proofs.counted.Statement.{statement}
+use Rattle.machine.proofs.counted.Tie as tie
+
+sub-if2 : tie.Need-sub-if2
+sub-if2 c = search needs
+
+add-result : tie.Need-add-result
+add-result c = search needs
+
+returns : tie.Need-returns
+unfolding zerosAfter
+returns c = rw (c .if1 .taken)
+
+returns-2 : tie.Need-returns-2
+unfolding zerosAfter
+returns-2 c = rw (c .before .if1 .left) (omega arith)
+
+returns-3 : tie.Need-returns-3
+unfolding zerosAfter
+returns-3 c = rw (c .before .if1 .left) (omega arith)
+
+pub counted-spec : {M : Type 1} → statement M
+counted-spec = tie.close (tie.spec sub-if2 add-result returns returns-2 returns-3)
