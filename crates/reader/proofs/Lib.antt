@@ -1,5 +1,4 @@
-pub mod Shown
-pub mod LawsHeader
-pub mod LawsAccess
-pub mod LawsStep
+pub mod Turns
+pub mod Heads
+pub mod Accesses
 mod Unique

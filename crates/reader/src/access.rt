@@ -1,8 +1,9 @@
 // R and W, and what their answers say of the addressed slave.
 ghost use mathlib.Core.Path.{_≡_};
-ghost use Prim.Native.Nat.{_+_, _*_, _<_};
-ghost use Rattle.line.specs.Bits.{num};
-ghost use Rattle.reader.specs.Code.{phaseBy, shown, answers, silences, Meets};
+ghost use mathlib.Core.Bool.{false, Bool·beq};
+ghost use Prim.Native.Nat.{_+_, _*_, _≤_, _<_};
+ghost use Rattle.line.specs.Bits.{num, bitOf};
+ghost use Rattle.reader.specs.Code.{idOf, lockOf, Meets};
 use crate::Body;
 use crate::Kind;
 use crate::Stepped;
@@ -16,7 +17,7 @@ use crate::made::number;
 
 // R, with its answer, waits for W.
 pub fn ask_r(zeros: u64, body: Body, m: bool, x: bool) -> Stepped
-    ensures { λ r. ⌜ Meets r (shown zeros (phaseBy Kind.AskR body) m x) ⌝ }
+    ensures { λ r. ⌜ Meets Kind.AskR zeros body m x r ⌝ }
 {
     let r = number(m);
     let y = number(x);
@@ -28,7 +29,7 @@ pub fn ask_r(zeros: u64, body: Body, m: bool, x: bool) -> Stepped
 
 // pair: "W's column, R = W".
 pub fn ask_w(zeros: u64, body: Body, m: bool, x: bool) -> Stepped
-    ensures { λ r. ⌜ Meets r (shown zeros (phaseBy Kind.AskW body) m x) ⌝ }
+    ensures { λ r. ⌜ Meets Kind.AskW zeros body m x r ⌝ }
 {
     let r = body.asked == 1;
     let id = body.id % ID_COUNT;
@@ -44,7 +45,8 @@ pub fn ask_w(zeros: u64, body: Body, m: bool, x: bool) -> Stepped
 
 // A locked ID: R and W repeated, or refused: "R repeated, W inverted".
 fn answered(zeros: u64, body: Body, m: bool, x: bool) -> Stepped
-    ensures { λ r. ⌜ Meets r (answers zeros body m x) ⌝ }
+    requires { ⌜ (Bool·beq (bitOf (body .asked)) m ≡ false) × (idOf body < lockOf body) ⌝ }
+    ensures { λ r. ⌜ Meets Kind.AskW zeros body m x r ⌝ }
 {
     let id = body.id % ID_COUNT;
     let address = body.address % REGISTER_COUNT;
@@ -67,7 +69,8 @@ fn answered(zeros: u64, body: Body, m: bool, x: bool) -> Stepped
 
 // absent: "answered 0 0, ID not locked".
 fn unlocked(zeros: u64, body: Body, m: bool, x: bool) -> Stepped
-    ensures { λ r. ⌜ Meets r (silences zeros body m x) ⌝ }
+    requires { ⌜ (Bool·beq (bitOf (body .asked)) m ≡ false) × (lockOf body ≤ idOf body) ⌝ }
+    ensures { λ r. ⌜ Meets Kind.AskW zeros body m x r ⌝ }
 {
     let id = body.id % ID_COUNT;
     let address = body.address % REGISTER_COUNT;

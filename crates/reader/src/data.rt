@@ -2,7 +2,7 @@
 ghost use mathlib.Core.Path.{_≡_};
 ghost use mathlib.Core.Bool.{_&&_, Bool·beq};
 ghost use Rattle.line.specs.Bits.{bitOf};
-ghost use Rattle.reader.specs.Code.{phaseBy, shown, Meets};
+ghost use Rattle.reader.specs.Code.{Meets};
 use crate::Body;
 use crate::Kind;
 use crate::Stepped;
@@ -23,7 +23,7 @@ const BYTE_LIMIT: u64 = 64;
 
 // mute: "S = 1 answered 0; deaf".
 pub fn byte_s(zeros: u64, body: Body, m: bool, x: bool) -> Stepped
-    ensures { λ r. ⌜ Meets r (shown zeros (phaseBy Kind.ByteS body) m x) ⌝ }
+    ensures { λ r. ⌜ Meets Kind.ByteS zeros body m x r ⌝ }
 {
     let id = body.id % ID_COUNT;
     let address = body.address % REGISTER_COUNT;
@@ -48,7 +48,7 @@ pub fn byte_s(zeros: u64, body: Body, m: bool, x: bool) -> Stepped
 
 // read, readbad: "last check column of a read, CDS check right, wrong".
 pub fn reads(zeros: u64, body: Body, m: bool, x: bool) -> Stepped
-    ensures { λ r. ⌜ Meets r (shown zeros (phaseBy Kind.Reads body) m x) ⌝ }
+    ensures { λ r. ⌜ Meets Kind.Reads zeros body m x r ⌝ }
 {
     let word = checkbits::pushed(body.word, x);
     let value = word / CHECK % DATA;
@@ -71,7 +71,7 @@ pub fn reads(zeros: u64, body: Body, m: bool, x: bool) -> Stepped
 
 // written, writebad: "CDM check right, wrong". echo: "as 11, but the echo differs in some bit".
 pub fn writes(zeros: u64, body: Body, m: bool, x: bool) -> Stepped
-    ensures { λ r. ⌜ Meets r (shown zeros (phaseBy Kind.Writes body) m x) ⌝ }
+    ensures { λ r. ⌜ Meets Kind.Writes zeros body m x r ⌝ }
 {
     let word = checkbits::pushed(body.word, m);
     let value = word / CHECK % DATA;
@@ -100,7 +100,7 @@ pub fn writes(zeros: u64, body: Body, m: bool, x: bool) -> Stepped
 
 // closed: "P answered 1". odd: "P answered 0 at address 127 or the 64th byte (value 4)".
 pub fn ask_p(zeros: u64, body: Body, m: bool, x: bool) -> Stepped
-    ensures { λ r. ⌜ Meets r (shown zeros (phaseBy Kind.AskP body) m x) ⌝ }
+    ensures { λ r. ⌜ Meets Kind.AskP zeros body m x r ⌝ }
 {
     let id = body.id % ID_COUNT;
     let address = body.address % REGISTER_COUNT;

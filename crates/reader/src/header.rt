@@ -1,7 +1,6 @@
 // The fifteen columns after S: the locks answered in the first nine, and the header that the last one completes.
-ghost use mathlib.Core.Path.{_≡_};
 ghost use Prim.Native.Nat.{_<_};
-ghost use Rattle.reader.specs.Code.{phaseBy, shown, Meets};
+ghost use Rattle.reader.specs.Code.{Meets};
 use crate::Body;
 use crate::Kind;
 use crate::Stepped;
@@ -24,7 +23,7 @@ const COMMANDS: u64 = 4;
 
 // Locks: ones alone so far. lock: "or 9 if IDL8 is 1 after eight".
 pub fn ones(zeros: u64, body: Body, m: bool, x: bool) -> Stepped
-    ensures { λ r. ⌜ Meets r (shown zeros (phaseBy Kind.Ones body) m x) ⌝ }
+    ensures { λ r. ⌜ Meets Kind.Ones zeros body m x r ⌝ }
 {
     let word = checkbits::pushed(body.word, m);
     let mut n = body;
@@ -51,7 +50,7 @@ pub fn ones(zeros: u64, body: Body, m: bool, x: bool) -> Stepped
 
 // Locks: ones and then zeros. lock: "how many of IDL0..7 are 1".
 pub fn upto(zeros: u64, body: Body, m: bool, x: bool) -> Stepped
-    ensures { λ r. ⌜ Meets r (shown zeros (phaseBy Kind.Upto body) m x) ⌝ }
+    ensures { λ r. ⌜ Meets Kind.Upto zeros body m x r ⌝ }
 {
     let word = checkbits::pushed(body.word, m);
     let lock = body.count % LOCK_BOUND;
@@ -76,7 +75,7 @@ pub fn upto(zeros: u64, body: Body, m: bool, x: bool) -> Stepped
 
 // lockodd: "any other lock pattern; deaf".
 pub fn mixed(zeros: u64, body: Body, m: bool, x: bool) -> Stepped
-    ensures { λ r. ⌜ Meets r (shown zeros (phaseBy Kind.Mixed body) m x) ⌝ }
+    ensures { λ r. ⌜ Meets Kind.Mixed zeros body m x r ⌝ }
 {
     if body.place < LAST_LOCK {
         let word = checkbits::pushed(body.word, m);
@@ -91,7 +90,7 @@ pub fn mixed(zeros: u64, body: Body, m: bool, x: bool) -> Stepped
 
 // badhead, command: "last header column".
 pub fn head(zeros: u64, body: Body, m: bool, x: bool) -> Stepped
-    ensures { λ r. ⌜ Meets r (shown zeros (phaseBy Kind.Head body) m x) ⌝ }
+    ensures { λ r. ⌜ Meets Kind.Head zeros body m x r ⌝ }
 {
     let word = checkbits::pushed(body.word, m);
     let mut n = body;

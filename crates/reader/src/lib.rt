@@ -8,7 +8,7 @@ mod made;
 
 ghost use mathlib.Core.Path.{_≡_};
 ghost use Rattle.line.specs.Rest.{powerOn};
-ghost use Rattle.reader.specs.Code.{phaseBy, stateOf, ended, gone, shown, Meets, Counted, Steps};
+ghost use Rattle.reader.specs.Code.{formBy, stateOf, Made, Meets, ended, Steps};
 use access::ask_r;
 use access::ask_w;
 use data::ask_p;
@@ -77,9 +77,6 @@ pub struct Stepped {
     pub entry: Entry,
 }
 
-// Rest: "Fourteen CDM zeros in a row end anything".
-const REST_ZEROS: u64 = 14;
-
 impl Reader {
     // Rest: "At power-on nobody is at rest".
     pub fn new() -> Reader
@@ -107,8 +104,8 @@ impl Reader {
     {
         let kind = self.kind;
         let body = self.body;
-        let zeros = counted(self.zeros, m);
-        if zeros < REST_ZEROS {
+        let zeros = machine::counted(self.zeros, m);
+        if zeros < machine::REST {
             goes_on(kind, zeros, body, m, x)
         } else {
             fourteenth(kind, body)
@@ -116,48 +113,25 @@ impl Reader {
     }
 }
 
-// The zeros in a row after this column, fourteen at most.
-fn counted(zeros: u64, m: bool) -> u64
-    ensures { λ r. ⌜ Counted zeros m r ⌝ }
-{
-    if m {
-        0
-    } else if zeros < REST_ZEROS - 1 {
-        zeros + 1
-    } else {
-        REST_ZEROS
-    }
-}
-
 // end: "the fourteenth zero after a frame was begun".
 fn fourteenth(kind: Kind, body: Body) -> Stepped
-    ensures { λ r. ⌜ Meets r (ended kind) ⌝ }
+    ensures { λ r. ⌜ Made Kind.Rest 0 body (ended (formBy kind body)) r ⌝ }
 {
     match kind {
         Kind::Power => rests(body, kinds::NONE),
         Kind::Rest => rests(body, kinds::NONE),
-        Kind::Deaf => rests(body, kinds::END),
-        Kind::Ones => rests(body, kinds::END),
-        Kind::Upto => rests(body, kinds::END),
-        Kind::Mixed => rests(body, kinds::END),
-        Kind::Head => rests(body, kinds::END),
-        Kind::AskR => rests(body, kinds::END),
-        Kind::AskW => rests(body, kinds::END),
-        Kind::ByteS => rests(body, kinds::END),
-        Kind::Reads => rests(body, kinds::END),
-        Kind::Writes => rests(body, kinds::END),
-        Kind::AskP => rests(body, kinds::END),
+        _ => rests(body, kinds::END),
     }
 }
 
 // A column that is no fourteenth zero.
 fn goes_on(kind: Kind, zeros: u64, body: Body, m: bool, x: bool) -> Stepped
-    ensures { λ r. ⌜ Meets r (gone kind zeros body m x) ⌝ }
+    ensures { λ r. ⌜ Meets kind zeros body m x r ⌝ }
 {
     match kind {
-        Kind::Power => power(zeros, body, m, x),
+        Kind::Power => go(Kind::Power, zeros, body),
         Kind::Rest => rest(zeros, body, m, x),
-        Kind::Deaf => deaf(zeros, body, m, x),
+        Kind::Deaf => go(Kind::Deaf, zeros, body),
         Kind::Ones => ones(zeros, body, m, x),
         Kind::Upto => upto(zeros, body, m, x),
         Kind::Mixed => mixed(zeros, body, m, x),
@@ -171,44 +145,17 @@ fn goes_on(kind: Kind, zeros: u64, body: Body, m: bool, x: bool) -> Stepped
     }
 }
 
-// Power-on: "ones then mean nothing".
-fn power(zeros: u64, body: Body, m: bool, x: bool) -> Stepped
-    ensures { λ r. ⌜ Meets r (gone Kind.Power zeros body m x) ⌝ }
-{
-    let next = Reader {
-        kind: Kind::Power,
-        zeros: zeros,
-        body: body,
-    };
-    let entry = Entry {
-        kind: kinds::NONE,
-        id: 0,
-        address: 0,
-        value: 0,
-    };
-    Stepped {
-        next: next,
-        entry: entry,
-    }
-}
-
-// Start: "The first 1 after rest is the start bit S".
+// Start: "The first 1 after rest is the start bit S". What `place` and `word` hold at rest does not matter: both are set in any case, so
+// that the compiler makes no branch of it.
 fn rest(zeros: u64, body: Body, m: bool, x: bool) -> Stepped
-    ensures { λ r. ⌜ Meets r (gone Kind.Rest zeros body m x) ⌝ }
+    ensures { λ r. ⌜ Meets Kind.Rest zeros body m x r ⌝ }
 {
+    let mut n = body;
+    n.place = 0;
+    n.word = 0;
     if m {
-        let mut n = body;
-        n.place = 0;
-        n.word = 0;
         go(Kind::Ones, 0, n)
     } else {
-        rests(body, kinds::NONE)
+        go(Kind::Rest, 0, n)
     }
-}
-
-// "A deaf slave .. stores nothing until rest", and a deaf reader hears nothing.
-fn deaf(zeros: u64, body: Body, m: bool, x: bool) -> Stepped
-    ensures { λ r. ⌜ Meets r (shown zeros (phaseBy Kind.Deaf body) m x) ⌝ }
-{
-    go(Kind::Deaf, zeros, body)
 }

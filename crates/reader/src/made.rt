@@ -1,9 +1,8 @@
 // What every column's function is made of: the next state with an entry or none, and bits as numbers.
 ghost use mathlib.Core.Path.{_≡_};
-ghost use mathlib.Core.Bool.{true};
 ghost use Prim.Native.Nat.{_<_};
 ghost use Rattle.line.specs.Bits.{num};
-ghost use Rattle.reader.specs.Code.{alive, phaseBy, nothing, said, seenBy, told, rested, small, Meets};
+ghost use Rattle.reader.specs.Code.{said, nothing, small, Made};
 use crate::Body;
 use crate::Entry;
 use crate::Kind;
@@ -22,15 +21,14 @@ pub const CHECK: u64 = 16;
 // Byte: "eight data bits".
 pub const DATA: u64 = 256;
 
-// In a frame, and nothing to list.
+// A next state, and nothing to list.
 pub fn go(kind: Kind, zeros: u64, body: Body) -> Stepped
-    requires { ⌜ alive kind ≡ true ⌝ }
-    ensures { λ r. ⌜ Meets r (λ c. told zeros (seenBy (phaseBy kind body) nothing)) ⌝ }
+    ensures { λ r. ⌜ Made kind zeros body nothing r ⌝ }
 {
     gives(kind, zeros, body, kinds::NONE, 0, 0, 0)
 }
 
-// In a frame, and an entry.
+// A next state, and an entry.
 pub fn gives(
     kind: Kind,
     zeros: u64,
@@ -40,8 +38,8 @@ pub fn gives(
     address: u64,
     value: u64,
 ) -> Stepped
-    requires { ⌜ (alive kind ≡ true) × small (said number id address value) ⌝ }
-    ensures { λ r. ⌜ Meets r (λ c. told zeros (seenBy (phaseBy kind body) (said number id address value))) ⌝ }
+    requires { ⌜ small (said number id address value) ⌝ }
+    ensures { λ r. ⌜ Made kind zeros body (said number id address value) r ⌝ }
 {
     let next = Reader {
         kind: kind,
@@ -63,23 +61,9 @@ pub fn gives(
 // At rest, and an entry of no field or none.
 pub fn rests(body: Body, number: u64) -> Stepped
     requires { ⌜ number < 256 ⌝ }
-    ensures { λ r. ⌜ Meets r (λ c. rested (said number 0 0 0)) ⌝ }
+    ensures { λ r. ⌜ Made Kind.Rest 0 body (said number 0 0 0) r ⌝ }
 {
-    let next = Reader {
-        kind: Kind::Rest,
-        zeros: 0,
-        body: body,
-    };
-    let entry = Entry {
-        kind: number,
-        id: 0,
-        address: 0,
-        value: 0,
-    };
-    Stepped {
-        next: next,
-        entry: entry,
-    }
+    gives(Kind::Rest, 0, body, number, 0, 0, 0)
 }
 
 pub fn number(bit: bool) -> u64

@@ -1,14 +1,16 @@
 -- `reader::goes_on` meets its contract: each kind has its function. Assumes nothing.
+use mathlib.Core.Path.{refl}
 use borrow.Author.Needs.{needs}
-use Rattle.reader.specs.Code.{gone}
+use Rattle.line.specs.Reader.{look}
+use Rattle.reader.proofs.Turns.{quiet, looked}
 use Rattle.reader.proofs.goes_on.Statement.{statement}
 use Rattle.reader.proofs.goes_on.Tie as tie
 
 enum-told : tie.Need-enum-told
 enum-told c = search needs
 
-power-requires : tie.Need-power-requires
-power-requires c κs = search needs
+go-requires : tie.Need-go-requires
+go-requires c κs = search needs
 
 enum-told-2 : tie.Need-enum-told-2
 enum-told-2 c = search needs
@@ -19,8 +21,8 @@ rest-requires c κs = search needs
 enum-told-3 : tie.Need-enum-told-3
 enum-told-3 c = search needs
 
-deaf-requires : tie.Need-deaf-requires
-deaf-requires c κs = search needs
+go-requires-2 : tie.Need-go-requires-2
+go-requires-2 c κs = search needs
 
 enum-told-4 : tie.Need-enum-told-4
 enum-told-4 c = search needs
@@ -83,53 +85,43 @@ ask-p-requires : tie.Need-ask-p-requires
 ask-p-requires c κs = search needs
 
 returns : tie.Need-returns
-returns c = rw (c .before .enum-told .given .1) (c .power .ensures)
+returns c = rw (c .before .enum-told .given .1) (quiet (c .go .ensures) refl)
 
 returns-2 : tie.Need-returns-2
 returns-2 c = rw (c .before .enum-told2 .given .1) (c .rest .ensures)
 
 returns-3 : tie.Need-returns-3
-unfolding gone
-returns-3 c = rw (c .before .enum-told3 .given .1) (c .deaf .ensures)
+unfolding look
+returns-3 c = rw (c .before .enum-told3 .given .1) (looked (c .go2 .ensures) refl refl (λ k. refl))
 
 returns-4 : tie.Need-returns-4
-unfolding gone
 returns-4 c = rw (c .before .enum-told4 .given .1) (c .ones .ensures)
 
 returns-5 : tie.Need-returns-5
-unfolding gone
 returns-5 c = rw (c .before .enum-told5 .given .1) (c .upto .ensures)
 
 returns-6 : tie.Need-returns-6
-unfolding gone
 returns-6 c = rw (c .before .enum-told6 .given .1) (c .mixed .ensures)
 
 returns-7 : tie.Need-returns-7
-unfolding gone
 returns-7 c = rw (c .before .enum-told7 .given .1) (c .head .ensures)
 
 returns-8 : tie.Need-returns-8
-unfolding gone
 returns-8 c = rw (c .before .enum-told8 .given .1) (c .ask-r .ensures)
 
 returns-9 : tie.Need-returns-9
-unfolding gone
 returns-9 c = rw (c .before .enum-told9 .given .1) (c .ask-w .ensures)
 
 returns-10 : tie.Need-returns-10
-unfolding gone
 returns-10 c = rw (c .before .enum-told10 .given .1) (c .byte-s .ensures)
 
 returns-11 : tie.Need-returns-11
-unfolding gone
 returns-11 c = rw (c .before .enum-told11 .given .1) (c .reads .ensures)
 
 returns-12 : tie.Need-returns-12
-unfolding gone
 returns-12 c = rw (c .before .enum-told12 .given .1) (c .writes .ensures)
 
 returns-13 : tie.Need-returns-13
-unfolding gone
 returns-13 c = rw (c .before .enum-told13 .given .1) (c .ask-p .ensures)
 
 pub goes-on-spec : {M : Type 1} → statement M
@@ -137,11 +129,11 @@ goes-on-spec =
     tie.close
     (tie.spec
     enum-told
-    power-requires
+    go-requires
     enum-told-2
     rest-requires
     enum-told-3
-    deaf-requires
+    go-requires-2
     enum-told-4
     ones-requires
     enum-told-5

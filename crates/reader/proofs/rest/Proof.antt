@@ -1,21 +1,20 @@
 -- `reader::rest` meets its contract: S, or rest as before. Assumes nothing.
 use borrow.Author.Needs.{needs}
-use Rattle.reader.proofs.LawsStep.{starts, stays}
-use Rattle.reader.proofs.Shown.{meets-by}
+use Rattle.reader.proofs.Turns.{quiet}
 use Rattle.reader.proofs.rest.Statement.{statement}
 use Rattle.reader.proofs.rest.Tie as tie
 
 go-requires : tie.Need-go-requires
 go-requires c κs = search needs
 
-rests-requires : tie.Need-rests-requires
-rests-requires c κs = search needs
+go-requires-2 : tie.Need-go-requires-2
+go-requires-2 c κs = search needs
 
 returns : tie.Need-returns
-returns c = meets-by (c .go .ensures) (λ k. search (starts, needs))
+returns c = quiet (c .go .ensures) (rw (c .before .if1 .taken))
 
 returns-2 : tie.Need-returns-2
-returns-2 c = meets-by (c .rests .ensures) (λ k. search (stays, needs))
+returns-2 c = quiet (c .go2 .ensures) (rw (c .before .if1 .left))
 
 pub rest-spec : {M : Type 1} → statement M
-rest-spec = tie.close (tie.spec go-requires rests-requires returns returns-2)
+rest-spec = tie.close (tie.spec go-requires go-requires-2 returns returns-2)

@@ -1,8 +1,6 @@
 -- `reader::Reader::step` meets its contract: by whether the column is the fourteenth zero. Assumes nothing.
 use borrow.Author.Needs.{needs}
-use Rattle.reader.proofs.LawsStep.{still-counts, counts-out, gone-step, ended-step}
-use Rattle.reader.proofs.Shown.{meets-by}
-use Rattle.reader.specs.Code.{stateOf}
+use Rattle.reader.proofs.Turns.{steps-on, steps-end}
 use Rattle.reader.proofs.Reader.step.Statement.{statement}
 use Rattle.reader.proofs.Reader.step.Tie as tie
 
@@ -16,16 +14,10 @@ fourteenth-requires : tie.Need-fourteenth-requires
 fourteenth-requires c κs = search needs
 
 returns : tie.Need-returns
-unfolding stateOf
-returns c =
-    meets-by (c .goes-on .ensures)
-    (gone-step _ _ _ _ _ _ (still-counts _ _ _ (c .before .before .counted .ensures) (c .before .if1 .taken)))
+returns c = steps-on _ _ _ _ (c .before .before .counted .ensures) (c .before .if1 .taken) (c .goes-on .ensures)
 
 returns-2 : tie.Need-returns-2
-unfolding stateOf
-returns-2 c =
-    meets-by (c .fourteenth .ensures)
-    (ended-step _ _ _ _ _ (counts-out _ _ _ (c .before .before .counted .ensures) (c .before .if1 .left)))
+returns-2 c = steps-end _ _ _ _ (c .before .before .counted .ensures) (c .before .if1 .left) (c .fourteenth .ensures)
 
 pub step-spec : {M : Type 1} → statement M
 step-spec =

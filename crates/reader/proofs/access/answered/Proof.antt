@@ -1,9 +1,8 @@
 -- `reader::access::answered` meets its contract, a law for each answer. Assumes nothing.
-use mathlib.Core.Path.{ap}
+use mathlib.Core.Path.{refl}
 use borrow.Author.Needs.{needs}
-use Rattle.reader.proofs.LawsAccess.{w-accepted, w-odd, w-refused}
-use Rattle.reader.proofs.Shown.{meets-by}
-use Rattle.reader.specs.Code.{told}
+use Rattle.reader.proofs.Accesses.{w-accepted, w-odd, w-refused}
+use Rattle.reader.proofs.Turns.{looked}
 use Rattle.reader.proofs.access.answered.Statement.{statement}
 use Rattle.reader.proofs.access.answered.Tie as tie
 
@@ -23,13 +22,13 @@ gives-requires-2 : tie.Need-gives-requires-2
 gives-requires-2 c κs = search needs
 
 returns : tie.Need-returns
-returns c = meets-by (c .go .ensures) (λ k. ap (told _) (search (w-accepted, needs)))
+returns c = looked (c .go .ensures) refl refl (λ k. search (w-accepted, needs))
 
 returns-2 : tie.Need-returns-2
-returns-2 c = meets-by (c .gives .ensures) (λ k. ap (told _) (search (w-refused, needs)))
+returns-2 c = looked (c .gives .ensures) refl refl (λ k. search (w-refused, needs))
 
 returns-3 : tie.Need-returns-3
-returns-3 c = meets-by (c .gives2 .ensures) (λ k. ap (told _) (search (w-odd, needs)))
+returns-3 c = looked (c .gives2 .ensures) refl refl (λ k. search (w-odd, needs))
 
 pub answered-spec : {M : Type 1} → statement M
 answered-spec =

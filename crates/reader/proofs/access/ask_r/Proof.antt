@@ -1,9 +1,8 @@
 -- `reader::access::ask_r` meets its contract, a law for each answer. Assumes nothing.
-use mathlib.Core.Path.{ap}
+use mathlib.Core.Path.{refl}
 use borrow.Author.Needs.{needs}
-use Rattle.reader.proofs.LawsAccess.{r-asked}
-use Rattle.reader.proofs.Shown.{meets-by}
-use Rattle.reader.specs.Code.{told}
+use Rattle.reader.proofs.Accesses.{r-asked}
+use Rattle.reader.proofs.Turns.{looked}
 use Rattle.reader.proofs.access.ask_r.Statement.{statement}
 use Rattle.reader.proofs.access.ask_r.Tie as tie
 
@@ -17,7 +16,7 @@ go-requires : tie.Need-go-requires
 go-requires c κs = search needs
 
 returns : tie.Need-returns
-returns c = meets-by (c .go .ensures) (λ k. ap (told _) (search (r-asked, needs)))
+returns c = looked (c .go .ensures) refl refl (λ k. search (r-asked, needs))
 
 pub ask-r-spec : {M : Type 1} → statement M
 ask-r-spec = tie.close (tie.spec number-requires number-requires-2 go-requires returns)

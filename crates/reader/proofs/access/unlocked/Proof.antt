@@ -1,9 +1,8 @@
 -- `reader::access::unlocked` meets its contract, a law for each answer. Assumes nothing.
-use mathlib.Core.Path.{ap}
+use mathlib.Core.Path.{refl}
 use borrow.Author.Needs.{needs}
-use Rattle.reader.proofs.LawsAccess.{w-absent, w-unasked}
-use Rattle.reader.proofs.Shown.{meets-by}
-use Rattle.reader.specs.Code.{told}
+use Rattle.reader.proofs.Accesses.{w-absent, w-unasked}
+use Rattle.reader.proofs.Turns.{looked}
 use Rattle.reader.proofs.access.unlocked.Statement.{statement}
 use Rattle.reader.proofs.access.unlocked.Tie as tie
 
@@ -17,10 +16,10 @@ gives-requires-2 : tie.Need-gives-requires-2
 gives-requires-2 c κs = search needs
 
 returns : tie.Need-returns
-returns c = meets-by (c .gives .ensures) (λ k. ap (told _) (search (w-absent, needs)))
+returns c = looked (c .gives .ensures) refl refl (λ k. search (w-absent, needs))
 
 returns-2 : tie.Need-returns-2
-returns-2 c = meets-by (c .gives2 .ensures) (λ k. ap (told _) (search (w-unasked, needs)))
+returns-2 c = looked (c .gives2 .ensures) refl refl (λ k. search (w-unasked, needs))
 
 pub unlocked-spec : {M : Type 1} → statement M
 unlocked-spec =

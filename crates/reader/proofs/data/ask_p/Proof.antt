@@ -1,9 +1,8 @@
 -- `reader::data::ask_p` meets its contract, a law for each answer. Assumes nothing.
-use mathlib.Core.Path.{ap}
+use mathlib.Core.Path.{refl}
 use borrow.Author.Needs.{needs}
-use Rattle.reader.proofs.LawsAccess.{p-closed, p-last-address, p-last-byte, p-more}
-use Rattle.reader.proofs.Shown.{meets-by}
-use Rattle.reader.specs.Code.{told}
+use Rattle.reader.proofs.Accesses.{p-closed, p-last-address, p-last-byte, p-more}
+use Rattle.reader.proofs.Turns.{looked}
 use Rattle.reader.proofs.data.ask_p.Statement.{statement}
 use Rattle.reader.proofs.data.ask_p.Tie as tie
 
@@ -26,16 +25,16 @@ gives-requires-3 : tie.Need-gives-requires-3
 gives-requires-3 c κs = search needs
 
 returns : tie.Need-returns
-returns c = meets-by (c .gives .ensures) (λ k. ap (told _) (search (p-closed, needs)))
+returns c = looked (c .gives .ensures) refl refl (λ k. search (p-closed, needs))
 
 returns-2 : tie.Need-returns-2
-returns-2 c = meets-by (c .go .ensures) (λ k. ap (told _) (search (p-more, needs)))
+returns-2 c = looked (c .go .ensures) refl refl (λ k. search (p-more, needs))
 
 returns-3 : tie.Need-returns-3
-returns-3 c = meets-by (c .gives2 .ensures) (λ k. ap (told _) (search (p-last-byte, needs)))
+returns-3 c = looked (c .gives2 .ensures) refl refl (λ k. search (p-last-byte, needs))
 
 returns-4 : tie.Need-returns-4
-returns-4 c = meets-by (c .gives3 .ensures) (λ k. ap (told _) (search (p-last-address, needs)))
+returns-4 c = looked (c .gives3 .ensures) refl refl (λ k. search (p-last-address, needs))
 
 pub ask-p-spec : {M : Type 1} → statement M
 ask-p-spec =

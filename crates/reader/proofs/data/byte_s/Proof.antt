@@ -1,9 +1,8 @@
 -- `reader::data::byte_s` meets its contract, a law for each answer. Assumes nothing.
-use mathlib.Core.Path.{ap}
+use mathlib.Core.Path.{refl}
 use borrow.Author.Needs.{needs}
-use Rattle.reader.proofs.LawsAccess.{s-mute, s-reads, s-writes, s-zero}
-use Rattle.reader.proofs.Shown.{meets-by}
-use Rattle.reader.specs.Code.{told}
+use Rattle.reader.proofs.Accesses.{s-mute, s-reads, s-writes, s-zero}
+use Rattle.reader.proofs.Turns.{looked}
 use Rattle.reader.proofs.data.byte_s.Statement.{statement}
 use Rattle.reader.proofs.data.byte_s.Tie as tie
 
@@ -20,16 +19,16 @@ go-requires-3 : tie.Need-go-requires-3
 go-requires-3 c κs = search needs
 
 returns : tie.Need-returns
-returns c = meets-by (c .go .ensures) (λ k. ap (told _) (search (s-writes, needs)))
+returns c = looked (c .go .ensures) refl refl (λ k. search (s-writes, needs))
 
 returns-2 : tie.Need-returns-2
-returns-2 c = meets-by (c .go2 .ensures) (λ k. ap (told _) (search (s-reads, needs)))
+returns-2 c = looked (c .go2 .ensures) refl refl (λ k. search (s-reads, needs))
 
 returns-3 : tie.Need-returns-3
-returns-3 c = meets-by (c .gives .ensures) (λ k. ap (told _) (search (s-mute, needs)))
+returns-3 c = looked (c .gives .ensures) refl refl (λ k. search (s-mute, needs))
 
 returns-4 : tie.Need-returns-4
-returns-4 c = meets-by (c .go3 .ensures) (λ k. ap (told _) (search (s-zero, needs)))
+returns-4 c = looked (c .go3 .ensures) refl refl (λ k. search (s-zero, needs))
 
 pub byte-s-spec : {M : Type 1} → statement M
 byte-s-spec =

@@ -1,6 +1,6 @@
 -- `reader::data::echoed` meets its contract. Assumes nothing.
 use borrow.Author.Needs.{needs}
-use Rattle.reader.proofs.LawsAccess.{echo-right, echo-wrong}
+use Rattle.reader.proofs.Accesses.{echo-right, echo-wrong}
 use Rattle.reader.proofs.data.echoed.Statement.{statement}
 use Rattle.reader.proofs.data.echoed.Tie as tie
 

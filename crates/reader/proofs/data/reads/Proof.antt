@@ -1,9 +1,8 @@
 -- `reader::data::reads` meets its contract, a law for each answer. Assumes nothing.
-use mathlib.Core.Path.{ap}
+use mathlib.Core.Path.{refl}
 use borrow.Author.Needs.{needs}
-use Rattle.reader.proofs.LawsAccess.{read-bad, read-good, read-on}
-use Rattle.reader.proofs.Shown.{meets-by}
-use Rattle.reader.specs.Code.{told}
+use Rattle.reader.proofs.Accesses.{read-bad, read-good, read-on}
+use Rattle.reader.proofs.Turns.{looked}
 use Rattle.reader.proofs.data.reads.Statement.{statement}
 use Rattle.reader.proofs.data.reads.Tie as tie
 
@@ -26,13 +25,13 @@ go-requires : tie.Need-go-requires
 go-requires c κs = search needs
 
 returns : tie.Need-returns
-returns c = meets-by (c .gives .ensures) (λ k. ap (told _) (search (read-good, needs)))
+returns c = looked (c .gives .ensures) refl refl (λ k. search (read-good, needs))
 
 returns-2 : tie.Need-returns-2
-returns-2 c = meets-by (c .gives2 .ensures) (λ k. ap (told _) (search (read-bad, needs)))
+returns-2 c = looked (c .gives2 .ensures) refl refl (λ k. search (read-bad, needs))
 
 returns-3 : tie.Need-returns-3
-returns-3 c = meets-by (c .go .ensures) (λ k. ap (told _) (search (read-on, needs)))
+returns-3 c = looked (c .go .ensures) refl refl (λ k. search (read-on, needs))
 
 pub reads-spec : {M : Type 1} → statement M
 reads-spec =

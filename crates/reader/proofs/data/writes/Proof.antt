@@ -1,9 +1,8 @@
 -- `reader::data::writes` meets its contract, a law for each answer. Assumes nothing.
-use mathlib.Core.Path.{ap}
+use mathlib.Core.Path.{refl}
 use borrow.Author.Needs.{needs}
-use Rattle.reader.proofs.LawsAccess.{write-bad, write-echo, write-good, write-on}
-use Rattle.reader.proofs.Shown.{meets-by}
-use Rattle.reader.specs.Code.{told}
+use Rattle.reader.proofs.Accesses.{write-bad, write-echo, write-good, write-on}
+use Rattle.reader.proofs.Turns.{looked}
 use Rattle.reader.proofs.data.writes.Statement.{statement}
 use Rattle.reader.proofs.data.writes.Tie as tie
 
@@ -32,16 +31,16 @@ go-requires : tie.Need-go-requires
 go-requires c κs = search needs
 
 returns : tie.Need-returns
-returns c = meets-by (c .gives .ensures) (λ k. ap (told _) (search (write-good, needs)))
+returns c = looked (c .gives .ensures) refl refl (λ k. search (write-good, needs))
 
 returns-2 : tie.Need-returns-2
-returns-2 c = meets-by (c .gives2 .ensures) (λ k. ap (told _) (search (write-echo, needs)))
+returns-2 c = looked (c .gives2 .ensures) refl refl (λ k. search (write-echo, needs))
 
 returns-3 : tie.Need-returns-3
-returns-3 c = meets-by (c .gives3 .ensures) (λ k. ap (told _) (search (write-bad, needs)))
+returns-3 c = looked (c .gives3 .ensures) refl refl (λ k. search (write-bad, needs))
 
 returns-4 : tie.Need-returns-4
-returns-4 c = meets-by (c .go .ensures) (λ k. ap (told _) (search (write-on, needs)))
+returns-4 c = looked (c .go .ensures) refl refl (λ k. search (write-on, needs))
 
 pub writes-spec : {M : Type 1} → statement M
 writes-spec =

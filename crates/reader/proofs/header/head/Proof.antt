@@ -1,9 +1,8 @@
 -- `reader::header::head` meets its contract, a law for each answer. Assumes nothing.
-use mathlib.Core.Path.{ap}
+use mathlib.Core.Path.{refl}
 use borrow.Author.Needs.{needs}
-use Rattle.reader.proofs.LawsHeader.{head-access, head-bad, head-command, head-on}
-use Rattle.reader.proofs.Shown.{meets-by}
-use Rattle.reader.specs.Code.{told}
+use Rattle.reader.proofs.Heads.{head-access, head-bad, head-command, head-on}
+use Rattle.reader.proofs.Turns.{looked}
 use Rattle.reader.proofs.header.head.Statement.{statement}
 use Rattle.reader.proofs.header.head.Tie as tie
 
@@ -29,16 +28,16 @@ gives-requires-2 : tie.Need-gives-requires-2
 gives-requires-2 c κs = search needs
 
 returns : tie.Need-returns
-returns c = meets-by (c .go .ensures) (λ k. ap (told _) (search (head-on, needs)))
+returns c = looked (c .go .ensures) refl refl (λ k. search (head-on, needs))
 
 returns-2 : tie.Need-returns-2
-returns-2 c = meets-by (c .go2 .ensures) (λ k. ap (told _) (search (head-access, needs)))
+returns-2 c = looked (c .go2 .ensures) refl refl (λ k. search (head-access, needs))
 
 returns-3 : tie.Need-returns-3
-returns-3 c = meets-by (c .gives .ensures) (λ k. ap (told _) (search (head-command, needs)))
+returns-3 c = looked (c .gives .ensures) refl refl (λ k. search (head-command, needs))
 
 returns-4 : tie.Need-returns-4
-returns-4 c = meets-by (c .gives2 .ensures) (λ k. ap (told _) (search (head-bad, needs)))
+returns-4 c = looked (c .gives2 .ensures) refl refl (λ k. search (head-bad, needs))
 
 pub head-spec : {M : Type 1} → statement M
 head-spec =

@@ -1,9 +1,8 @@
 -- `reader::header::mixed` meets its contract, a law for each answer. Assumes nothing.
-use mathlib.Core.Path.{ap}
+use mathlib.Core.Path.{refl}
 use borrow.Author.Needs.{needs}
-use Rattle.reader.proofs.LawsHeader.{mixed-odd, mixed-on}
-use Rattle.reader.proofs.Shown.{meets-by}
-use Rattle.reader.specs.Code.{told}
+use Rattle.reader.proofs.Heads.{mixed-odd, mixed-on}
+use Rattle.reader.proofs.Turns.{looked}
 use Rattle.reader.proofs.header.mixed.Statement.{statement}
 use Rattle.reader.proofs.header.mixed.Tie as tie
 
@@ -20,10 +19,10 @@ gives-requires : tie.Need-gives-requires
 gives-requires c κs = search needs
 
 returns : tie.Need-returns
-returns c = meets-by (c .go .ensures) (λ k. ap (told _) (search (mixed-on, needs)))
+returns c = looked (c .go .ensures) refl refl (λ k. search (mixed-on, needs))
 
 returns-2 : tie.Need-returns-2
-returns-2 c = meets-by (c .gives .ensures) (λ k. ap (told _) (search (mixed-odd, needs)))
+returns-2 c = looked (c .gives .ensures) refl refl (λ k. search (mixed-odd, needs))
 
 pub mixed-spec : {M : Type 1} → statement M
 mixed-spec =

@@ -1,9 +1,8 @@
 -- `reader::header::ones` meets its contract, a law for each answer. Assumes nothing.
-use mathlib.Core.Path.{ap}
+use mathlib.Core.Path.{refl}
 use borrow.Author.Needs.{needs}
-use Rattle.reader.proofs.LawsHeader.{ones-eight, ones-fall, ones-nine, ones-on}
-use Rattle.reader.proofs.Shown.{meets-by}
-use Rattle.reader.specs.Code.{told}
+use Rattle.reader.proofs.Heads.{ones-eight, ones-fall, ones-nine, ones-on}
+use Rattle.reader.proofs.Turns.{looked}
 use Rattle.reader.proofs.header.ones.Statement.{statement}
 use Rattle.reader.proofs.header.ones.Tie as tie
 
@@ -29,16 +28,16 @@ gives-requires-2 : tie.Need-gives-requires-2
 gives-requires-2 c κs = search needs
 
 returns : tie.Need-returns
-returns c = meets-by (c .go .ensures) (λ k. ap (told _) (search (ones-on, needs)))
+returns c = looked (c .go .ensures) refl refl (λ k. search (ones-on, needs))
 
 returns-2 : tie.Need-returns-2
-returns-2 c = meets-by (c .go2 .ensures) (λ k. ap (told _) (search (ones-fall, needs)))
+returns-2 c = looked (c .go2 .ensures) refl refl (λ k. search (ones-fall, needs))
 
 returns-3 : tie.Need-returns-3
-returns-3 c = meets-by (c .gives .ensures) (λ k. ap (told _) (search (ones-nine, needs)))
+returns-3 c = looked (c .gives .ensures) refl refl (λ k. search (ones-nine, needs))
 
 returns-4 : tie.Need-returns-4
-returns-4 c = meets-by (c .gives2 .ensures) (λ k. ap (told _) (search (ones-eight, needs)))
+returns-4 c = looked (c .gives2 .ensures) refl refl (λ k. search (ones-eight, needs))
 
 pub ones-spec : {M : Type 1} → statement M
 ones-spec =

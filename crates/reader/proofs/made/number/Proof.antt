@@ -1,6 +1,6 @@
 -- `reader::made::number` meets its contract. Assumes nothing.
 use borrow.Author.Needs.{needs}
-use Rattle.reader.proofs.LawsAccess.{number-is}
+use Rattle.reader.proofs.Accesses.{number-is}
 use Rattle.reader.proofs.made.number.Statement.{statement}
 use Rattle.reader.proofs.made.number.Tie as tie
 

@@ -9,7 +9,7 @@ use mir.Val.{boolByte}
 use Rattle.line.specs.Limits.{registerCount, byteLimit}
 use Rattle.line.specs.Bits.{num, bitOf, push}
 use Rattle.line.specs.Division.{dataBits, checkWidth, topBit, fits, byteOf}
-use Rattle.line.specs.Reader.{deaf, askR, askW, byteS, reads, writes, askP, answer, silence, asked, look}
+use Rattle.line.specs.Reader.{deaf, askR, askW, byteS, reads, writes, askP, asked, look}
 use Rattle.reader.specs.Code.{said, nothing, seenBy, seen}
 
 -- A bit as a number and back.
@@ -21,11 +21,6 @@ pub number-is : (b : Bool) → (boolByte b ≡ num b) × (boolByte b < 2)
 number-is true = (refl, omega arith)
 number-is false = (refl, omega arith)
 
--- The word keeps the last sixteen bits.
-pub pushes : (w n : ℕ) (b : Bool) → n ≡ num b → n < 2 → w % 2 ^ 15 * 2 + n ≡ push w b
-unfolding push
-pushes w n b e h = rw (← e) (omega arith)
-
 pub echo-right : (k : ℕ) (m x : Bool) → Bool·beq x m ≡ true → bitOf k ≡ bitOf k && Bool·beq x m
 echo-right k m x e = rw (e, and-true (bitOf k))
 
@@ -33,40 +28,32 @@ pub echo-wrong : (b m x : Bool) → Bool·beq x m ≡ false → false ≡ b && B
 echo-wrong b m x e = rw (e, and-false b)
 
 module _ (c i a : ℕ) (m x : Bool) where
-  pub deaf-on : seenBy deaf nothing ≡ seen (look c deaf m x)
-  unfolding look
-  deaf-on = refl
-
   pub r-asked : (l k j : ℕ) → k ≡ num m → j ≡ num x
       → seenBy (askW i a l (bitOf k) (bitOf j)) nothing ≡ seen (look c (askR i a l) m x)
   unfolding look
   r-asked l k j e h = rw (e, h, bit-num m, bit-num x)
 
+  -- At W: R = W; a locked ID, which accepts, refuses or answers otherwise.
   module _ (l : ℕ) (r y : Bool) where
     pub w-pair : Bool·beq r m ≡ true → seenBy deaf (said 5 i a 0) ≡ seen (look c (askW i a l r y) m x)
     unfolding look asked
     w-pair e = rw e
 
-    pub w-locked : Bool·beq r m ≡ false → i < l → seen (answer c i a r y m x) ≡ seen (look c (askW i a l r y) m x)
-    unfolding look asked
-    w-locked e h = rw (e, lt-ltb i l h)
+    module _ (differ : Bool·beq r m ≡ false) (locked : i < l) where
+      pub w-accepted : Bool·beq y r ≡ true → Bool·beq x m ≡ true
+          → (k : ℕ) → k ≡ num m → seenBy (byteS (bitOf k) i a 1) nothing ≡ seen (look c (askW i a l r y) m x)
+      unfolding look asked
+      w-accepted e h k q = rw (differ, lt-ltb i l locked, e, h, q, bit-num m)
 
-    pub w-unlocked : Bool·beq r m ≡ false → l ≤ i → seen (silence c i a y x) ≡ seen (look c (askW i a l r y) m x)
-    unfolding look asked
-    w-unlocked e h = rw (e, le-ltb i l h)
+      pub w-refused : Bool·beq y r ≡ true → Bool·beq x m ≡ false
+          → (k : ℕ) → k ≡ num m → seenBy deaf (said 7 i a k) ≡ seen (look c (askW i a l r y) m x)
+      unfolding look asked
+      w-refused e h k q = rw (differ, lt-ltb i l locked, e, h, q)
 
-  module _ (r y : Bool) where
-    pub w-accepted : Bool·beq y r ≡ true → Bool·beq x m ≡ true
-        → (k : ℕ) → k ≡ num m → seenBy (byteS (bitOf k) i a 1) nothing ≡ seen (answer c i a r y m x)
-    w-accepted e h k q = rw (e, h, q, bit-num m)
-
-    pub w-refused : Bool·beq y r ≡ true → Bool·beq x m ≡ false
-        → (k : ℕ) → k ≡ num m → seenBy deaf (said 7 i a k) ≡ seen (answer c i a r y m x)
-    w-refused e h k q = rw (e, h, q)
-
-    pub w-odd : Bool·beq y r ≡ false → (v : ℕ) → v ≡ 2 * num y + num x
-        → seenBy deaf (said 8 i a v) ≡ seen (answer c i a r y m x)
-    w-odd e v q = rw (e, q)
+      pub w-odd : Bool·beq y r ≡ false → (v : ℕ) → v ≡ 2 * num y + num x
+          → seenBy deaf (said 8 i a v) ≡ seen (look c (askW i a l r y) m x)
+      unfolding look asked
+      w-odd e v q = rw (differ, lt-ltb i l locked, e, q)
 
   -- At S.
   module _ (k n : ℕ) where
@@ -149,16 +136,19 @@ module _ (c i a : ℕ) (m x : Bool) where
     unfolding look
     p-last-address e h = rw (e, le-ltb (a + 1) registerCount (omega arith))
 
--- absent: "answered 0 0", the number of the two answers being 0.
-module _ (c i a v : ℕ) where
-  pub w-absent : (y x : Bool) → v ≡ 2 * num y + num x → v ≡ 0 → seenBy deaf (said 6 i a 0) ≡ seen (silence c i a y x)
+-- At W: an ID that is not locked. absent: "answered 0 0", the number of the two answers being 0.
+module _ (c i a l v : ℕ) (r m : Bool) (differ : Bool·beq r m ≡ false) (unlocked : l ≤ i) where
+  pub w-absent : (y x : Bool) → v ≡ 2 * num y + num x → v ≡ 0 → seenBy deaf (said 6 i a 0) ≡ seen (look c (askW i a l r y) m x)
+  unfolding look asked
   w-absent true true q e = absurd (omega arith)
   w-absent true false q e = absurd (omega arith)
   w-absent false true q e = absurd (omega arith)
-  w-absent false false q e = refl
+  w-absent false false q e = rw (differ, le-ltb i l unlocked)
 
-  pub w-unasked : (y x : Bool) → v ≡ 2 * num y + num x → (v ≡ 0 → ⊥) → seenBy deaf (said 8 i a v) ≡ seen (silence c i a y x)
-  w-unasked true true q e = rw q
-  w-unasked true false q e = rw q
-  w-unasked false true q e = rw q
+  pub w-unasked : (y x : Bool) → v ≡ 2 * num y + num x → (v ≡ 0 → ⊥)
+      → seenBy deaf (said 8 i a v) ≡ seen (look c (askW i a l r y) m x)
+  unfolding look asked
+  w-unasked true true q e = rw (differ, le-ltb i l unlocked, q)
+  w-unasked true false q e = rw (differ, le-ltb i l unlocked, q)
+  w-unasked false true q e = rw (differ, le-ltb i l unlocked, q)
   w-unasked false false q e = absurd (e q)
