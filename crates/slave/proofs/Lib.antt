@@ -1,6 +1,5 @@
 pub mod Turns
 pub mod Silence
-pub mod Words
 pub mod Heads
 pub mod Accesses
 mod Unique

@@ -21,7 +21,7 @@ use Rattle.slave.specs.declared.Body.{Body}
 use Rattle.slave.specs.declared.Slave.{Slave}
 use Rattle.slave.specs.declared.Seen.{Seen}
 use Rattle.slave.specs.declared.Turn.{Turn}
-use Rattle.slave.specs.declared.Lock.{Lock}
+use Rattle.slave.specs.declared.header.Lock.{Lock}
 
 -- An ID, where the number is one; any other number stands for none.
 abbrev pub numberOf : ℕ → Option ℕ

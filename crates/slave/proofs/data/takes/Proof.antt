@@ -1,10 +1,10 @@
--- `slave::takes` meets its contract, a law for each answer. Assumes nothing.
+-- `slave::data::takes` meets its contract, a law for each answer. Assumes nothing.
 use mathlib.Core.Path.{refl}
 use borrow.Author.Needs.{needs}
 use Rattle.slave.proofs.Accesses.{takes-on, takes-good, takes-bad}
 use Rattle.slave.proofs.Turns.{spoke, stores}
-use Rattle.slave.proofs.takes.Statement.{statement}
-use Rattle.slave.proofs.takes.Tie as tie
+use Rattle.slave.proofs.data.takes.Statement.{statement}
+use Rattle.slave.proofs.data.takes.Tie as tie
 
 pushed-requires : tie.Need-pushed-requires
 pushed-requires c κs = search needs

@@ -1,10 +1,10 @@
--- `slave::ask_w` meets its contract, a law for each answer. Assumes nothing.
+-- `slave::access::ask_w` meets its contract, a law for each answer. Assumes nothing.
 use mathlib.Core.Path.{refl}
 use borrow.Author.Needs.{needs}
 use Rattle.slave.proofs.Accesses.{ask-alike, ask-allowed, ask-refused}
 use Rattle.slave.proofs.Turns.{spoke}
-use Rattle.slave.proofs.ask_w.Statement.{statement}
-use Rattle.slave.proofs.ask_w.Tie as tie
+use Rattle.slave.proofs.access.ask_w.Statement.{statement}
+use Rattle.slave.proofs.access.ask_w.Tie as tie
 
 said-requires : tie.Need-said-requires
 said-requires c κs = search needs

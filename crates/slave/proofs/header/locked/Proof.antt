@@ -1,8 +1,8 @@
--- `slave::locked` meets its contract, a law for each answer. Assumes nothing.
+-- `slave::header::locked` meets its contract, a law for each answer. Assumes nothing.
 use borrow.Author.Needs.{needs}
 use Rattle.slave.proofs.Heads.{lock-holds, lock-passes, lock-before, lock-takes, lock-past}
-use Rattle.slave.proofs.locked.Statement.{statement}
-use Rattle.slave.proofs.locked.Tie as tie
+use Rattle.slave.proofs.header.locked.Statement.{statement}
+use Rattle.slave.proofs.header.locked.Tie as tie
 
 returns : tie.Need-returns
 returns c = search (lock-holds, needs)

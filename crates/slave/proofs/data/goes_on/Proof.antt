@@ -1,8 +1,8 @@
--- `slave::goes_on` meets its contract, a law for each answer. Assumes nothing.
+-- `slave::data::goes_on` meets its contract, a law for each answer. Assumes nothing.
 use borrow.Author.Needs.{needs}
 use Rattle.slave.proofs.Accesses.{on-bad, on-past, on-many, on-right}
-use Rattle.slave.proofs.goes_on.Statement.{statement}
-use Rattle.slave.proofs.goes_on.Tie as tie
+use Rattle.slave.proofs.data.goes_on.Statement.{statement}
+use Rattle.slave.proofs.data.goes_on.Tie as tie
 
 allowed-requires : tie.Need-allowed-requires
 allowed-requires c κs = search needs

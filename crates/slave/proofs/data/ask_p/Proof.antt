@@ -1,10 +1,10 @@
--- `slave::ask_p` meets its contract, a law for each answer. Assumes nothing.
+-- `slave::data::ask_p` meets its contract, a law for each answer. Assumes nothing.
 use mathlib.Core.Path.{refl, sym, _∙_}
 use borrow.Author.Needs.{needs}
 use Rattle.slave.proofs.Accesses.{on-few, asks-on, asks-end}
 use Rattle.slave.proofs.Turns.{spoke}
-use Rattle.slave.proofs.ask_p.Statement.{statement}
-use Rattle.slave.proofs.ask_p.Tie as tie
+use Rattle.slave.proofs.data.ask_p.Statement.{statement}
+use Rattle.slave.proofs.data.ask_p.Tie as tie
 
 goes-on-requires : tie.Need-goes-on-requires
 goes-on-requires c κs = search needs

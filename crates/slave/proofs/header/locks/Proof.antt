@@ -1,10 +1,10 @@
--- `slave::locks` meets its contract, a law for each answer. Assumes nothing.
+-- `slave::header::locks` meets its contract, a law for each answer. Assumes nothing.
 use mathlib.Core.Path.{refl}
 use borrow.Author.Needs.{needs}
 use Rattle.slave.proofs.Heads.{locks-on, locks-end}
 use Rattle.slave.proofs.Turns.{spoke}
-use Rattle.slave.proofs.locks.Statement.{statement}
-use Rattle.slave.proofs.locks.Tie as tie
+use Rattle.slave.proofs.header.locks.Statement.{statement}
+use Rattle.slave.proofs.header.locks.Tie as tie
 
 locked-requires : tie.Need-locked-requires
 locked-requires c κs = search needs

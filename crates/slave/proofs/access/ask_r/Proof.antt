@@ -1,10 +1,10 @@
--- `slave::ask_r` meets its contract. Assumes nothing.
+-- `slave::access::ask_r` meets its contract. Assumes nothing.
 use mathlib.Core.Path.{refl}
 use borrow.Author.Needs.{needs}
 use Rattle.line.specs.Slave.{speak}
 use Rattle.slave.proofs.Turns.{quiet}
-use Rattle.slave.proofs.ask_r.Statement.{statement}
-use Rattle.slave.proofs.ask_r.Tie as tie
+use Rattle.slave.proofs.access.ask_r.Statement.{statement}
+use Rattle.slave.proofs.access.ask_r.Tie as tie
 
 said-requires : tie.Need-said-requires
 said-requires c κs = search needs

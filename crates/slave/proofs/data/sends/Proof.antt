@@ -1,10 +1,10 @@
--- `slave::sends` meets its contract, a law for each answer. Assumes nothing.
+-- `slave::data::sends` meets its contract, a law for each answer. Assumes nothing.
 use mathlib.Core.Path.{refl}
 use borrow.Author.Needs.{needs}
 use Rattle.slave.proofs.Accesses.{sends-on, sends-last}
 use Rattle.slave.proofs.Turns.{spoke}
-use Rattle.slave.proofs.sends.Statement.{statement}
-use Rattle.slave.proofs.sends.Tie as tie
+use Rattle.slave.proofs.data.sends.Statement.{statement}
+use Rattle.slave.proofs.data.sends.Tie as tie
 
 shr-sent : tie.Need-shr-sent
 shr-sent c = search needs

@@ -1,9 +1,9 @@
--- `slave::checked` meets its contract: a byte above its check bits is its word. Assumes nothing.
+-- `slave::data::checked` meets its contract: a byte above its check bits is its word. Assumes nothing.
 use native.Mathlib.Omega.{arith}
 use borrow.Author.Needs.{needs}
 use Rattle.line.specs.Division.{word}
-use Rattle.slave.proofs.checked.Statement.{statement}
-use Rattle.slave.proofs.checked.Tie as tie
+use Rattle.slave.proofs.data.checked.Statement.{statement}
+use Rattle.slave.proofs.data.checked.Tie as tie
 
 mul-result : tie.Need-mul-result
 mul-result c = search needs

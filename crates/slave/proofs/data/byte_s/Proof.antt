@@ -1,10 +1,10 @@
--- `slave::byte_s` meets its contract, a law for each answer. Assumes nothing.
+-- `slave::data::byte_s` meets its contract, a law for each answer. Assumes nothing.
 use mathlib.Core.Path.{refl}
 use borrow.Author.Needs.{needs}
 use Rattle.slave.proofs.Accesses.{byte-ends, byte-takes, byte-sends}
 use Rattle.slave.proofs.Turns.{spoke}
-use Rattle.slave.proofs.byte_s.Statement.{statement}
-use Rattle.slave.proofs.byte_s.Tie as tie
+use Rattle.slave.proofs.data.byte_s.Statement.{statement}
+use Rattle.slave.proofs.data.byte_s.Tie as tie
 
 said-requires : tie.Need-said-requires
 said-requires c κs = search needs

@@ -1,8 +1,8 @@
--- `slave::called` meets its contract, a law for each answer. Assumes nothing.
+-- `slave::header::called` meets its contract, a law for each answer. Assumes nothing.
 use borrow.Author.Needs.{needs}
 use Rattle.slave.proofs.Heads.{called-wrong, called-command, called-access}
-use Rattle.slave.proofs.called.Statement.{statement}
-use Rattle.slave.proofs.called.Tie as tie
+use Rattle.slave.proofs.header.called.Statement.{statement}
+use Rattle.slave.proofs.header.called.Tie as tie
 
 header-fits-requires : tie.Need-header-fits-requires
 header-fits-requires c κs = search needs

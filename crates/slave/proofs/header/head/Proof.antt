@@ -1,10 +1,10 @@
--- `slave::head` meets its contract, a law for each answer. Assumes nothing.
+-- `slave::header::head` meets its contract, a law for each answer. Assumes nothing.
 use mathlib.Core.Path.{refl}
 use borrow.Author.Needs.{needs}
 use Rattle.slave.proofs.Heads.{head-on, head-called, head-deaf}
 use Rattle.slave.proofs.Turns.{spoke}
-use Rattle.slave.proofs.head.Statement.{statement}
-use Rattle.slave.proofs.head.Tie as tie
+use Rattle.slave.proofs.header.head.Statement.{statement}
+use Rattle.slave.proofs.header.head.Tie as tie
 
 pushed-requires : tie.Need-pushed-requires
 pushed-requires c κs = search needs

@@ -1,0 +1,121 @@
+// The fifteen columns after S: the locks, and the header that the last one completes.
+ghost use mathlib.Core.Path.{_≡_};
+ghost use Rattle.slave.specs.Code.{nextColumn, lockOf, Meets, lockedAs, CalledAs};
+use crate::Body;
+use crate::Kind;
+use crate::Seen;
+use crate::Turn;
+use crate::made::CHECKS;
+use crate::made::LOCK_FIRST;
+use crate::made::LOCK_LAST;
+use crate::made::NONE;
+use crate::made::REGISTERS;
+use crate::made::said;
+
+// Header: "Fifteen columns after S".
+const HEADER: u64 = 15;
+// Header: "CTS = 1 is a register access: ID (3 bits), address (7)": CTS stands above ten bits, ID above seven.
+const CTS: u64 = 1024;
+
+const ID: u64 = 128;
+
+const IDS: u64 = 8;
+
+// What a lock column makes of it: the number that it holds then, and the bit that it sends.
+struct Lock {
+    number: u64,
+    sent: bool,
+}
+
+// Locks: the header's bits up to IDL8's column.
+pub fn locks(zeros: u64, body: Body, seen: Seen) -> Turn
+    ensures { λ r. ⌜ Meets Kind.Locks zeros body seen r ⌝ }
+{
+    let lock = locked(body.column, body.number, seen.far);
+    let mut n = body;
+    n.word = checkbits::pushed(body.word, seen.master);
+    n.number = lock.number;
+    if body.column < LOCK_LAST {
+        n.column = body.column + 1;
+        said(Kind::Locks, zeros, n, lock.sent, seen.byte)
+    } else {
+        n.column = after(body.column);
+        said(Kind::Head, zeros, n, lock.sent, seen.byte)
+    }
+}
+
+// The next column of the header; a count that no header reaches stays.
+fn after(column: u64) -> u64
+    ensures { λ r. ⌜ r ≡ nextColumn column ⌝ }
+{
+    if column < HEADER {
+        column + 1
+    } else {
+        HEADER + 1
+    }
+}
+
+// Locks: "a slave that holds no number yet and sees 0 takes this number and sends 1; all others pass on what they see."
+fn locked(column: u64, number: u64, far: bool) -> Lock
+    ensures { λ r. ⌜ lockOf r ≡ lockedAs column number far ⌝ }
+{
+    if number < NONE {
+        Lock {
+            number: number,
+            sent: far,
+        }
+    } else if far {
+        Lock {
+            number: number,
+            sent: true,
+        }
+    } else if column < LOCK_FIRST {
+        Lock {
+            number: number,
+            sent: false,
+        }
+    } else if column < LOCK_LAST {
+        Lock {
+            number: column - LOCK_FIRST,
+            sent: true,
+        }
+    } else {
+        Lock {
+            number: number,
+            sent: true,
+        }
+    }
+}
+
+// The header's columns behind the locks. "Wrong header check, or a command: all slaves go deaf until rest."
+pub fn head(zeros: u64, body: Body, seen: Seen) -> Turn
+    ensures { λ r. ⌜ Meets Kind.Head zeros body seen r ⌝ }
+{
+    let word = checkbits::pushed(body.word, seen.master);
+    let mut n = body;
+    n.word = word;
+    if body.column < HEADER {
+        n.column = body.column + 1;
+        said(Kind::Head, zeros, n, seen.far, seen.byte)
+    } else if called(word, body.number) {
+        n.address = word / CHECKS % REGISTERS;
+        said(Kind::AskR, zeros, n, seen.far, seen.byte)
+    } else {
+        said(Kind::Deaf, zeros, n, seen.far, seen.byte)
+    }
+}
+
+// Whether a header with its check calls the slave of this number to a register access.
+fn called(word: u64, number: u64) -> bool
+    ensures { λ r. ⌜ CalledAs word number r ⌝ }
+{
+    if checkbits::header_fits(word) {
+        if word / CHECKS / CTS % 2 == 1 {
+            number == word / CHECKS / ID % IDS
+        } else {
+            false
+        }
+    } else {
+        false
+    }
+}
