@@ -28,7 +28,7 @@ use Rattle.line.proofs.Division.{accepted}
 use Rattle.line.proofs.Every.{IfAny, tested, looked-up}
 use Rattle.line.proofs.Memories.{Bytes, inside, outside, set-same, at-set, every-at, stored-set, bytes-stored, goes-on}
 use Rattle.line.proofs.Dress.{dress, passTo}
-use Rattle.line.proofs.Locks.{number, lock-column}
+use Rattle.line.proofs.Locks.{number, arrives, lock-column}
 use Rattle.line.proofs.Addressed.{framed, only, only-deaf, column-turns, column-nobody, column-one}
 
 -- What the reader saw of n slaves in the first j lock columns.
@@ -42,9 +42,11 @@ lockOf ks = min (idCount + 1) (length ks)
 pub data Sim (ks : List Memory) : Account.Phase → (ℕ → Slave.Phase) → Reader.Phase → Type 0 where
   -- Nobody is addressed any more: all wait for rest.
   all-deaf : Sim ks Account.deaf (λ i. Slave.deaf) Reader.deaf
-  -- IDL j is next: the first j slaves hold their place as number, and the reader saw a 1 for each of them and then zeros.
-  at-locks : (column j w : ℕ) → lockFirst + j ≡ column → j ≤ idCount
-      → Sim ks (Account.locks column w) (λ i. Slave.locks column w (number i j)) (Reader.locks column w (ladder (length ks) j))
+  -- A column of the locks is next, or one before them: as many slaves as lock columns have passed hold their place as number, and the
+  -- reader saw a 1 for each of them and then zeros.
+  at-locks : (column w : ℕ) → column ≤ lockLast
+      → Sim ks (Account.locks column w) (λ i. Slave.locks column w (number i (column - lockFirst)))
+      (Reader.locks column w (ladder (length ks) (column - lockFirst)))
   -- The locks are done: the first eight slaves are numbered, and the reader knows how many there are, or that there are more.
   at-head : (column w : ℕ) → Sim ks (Account.head column w) (λ i. Slave.head column w (number i idCount)) (Reader.head column w (lockOf ks))
   -- R is next, for the slave at place id, if the chain has one.
@@ -98,25 +100,29 @@ pub record Next (ks : List Memory) (f : ℕ → Timed Slave.Phase) (m : Bool) (t
   pub bytes : Bytes (kept ks (told .says))
   pub shows : IfAny (λ e. whenRead (is Kind.read e) ks e) (told .says)
 
--- A lock column of n slaves to the reader: IDL j is 1 where there is a slave at place j.
-ladder-next : (n j : ℕ) → Reader.shown (lockFirst + j) (ladder n j) (ltb j n) ≡ ladder n (j + 1)
-unfolding ladder Reader.seen
-ladder-next n j =
-    let own : lockFirst + j - lockFirst ≡ j = omega arith in
-    rw (le-ltb (lockFirst + j) lockFirst (omega arith), own)
-    (tested (ltb n j)
-    (λ q. rw (q, le-ltb j n (omega (arith, ltb-true)), lt-ltb n (j + 1) (omega (arith, ltb-true))))
+-- A column of the locks of n slaves to the reader: IDL j is 1 where there is a slave at place j.
+ladder-next : (n column : ℕ) → Reader.shown column (ladder n (column - lockFirst)) (arrives column n) ≡ ladder n (column + 1 - lockFirst)
+unfolding ladder arrives Reader.seen
+ladder-next n column =
+    let j : ℕ = column - lockFirst in
+    let j′ : ℕ = column + 1 - lockFirst in
+    tested (ltb column lockFirst)
+    (λ b. let none-yet : column - lockFirst ≡ 0 = omega (arith, ltb-true) in
+    let none-then : column + 1 - lockFirst ≡ 0 = omega (arith, ltb-true) in
+    rw (b, none-yet, none-then))
+    (λ b. tested (ltb n j)
+    (λ q. rw (b, q, le-ltb j n (omega (arith, ltb-true)), lt-ltb n j′ (omega (arith, ltb-true))))
     (λ q. tested (ltb j n)
-    (λ r. rw (q, r, le-ltb n (j + 1) (omega (arith, ltb-true))))
-    (λ r. let end : n ≡ j = omega (arith, ltb-false) in rw (q, r, end, lt-ltb j (j + 1) (omega arith)))))
+    (λ r. rw (b, q, r, le-ltb n j′ (omega (arith, ltb-true, ltb-false))))
+    (λ r. let end : column - lockFirst ≡ n = omega (arith, ltb-false) in rw (b, q, r, end, lt-ltb n j′ (omega (arith, ltb-false))))))
 
 -- After IDL8 the reader has the lock value.
-ladder-locked : (n j c column w : ℕ) → j ≡ idCount
-    → Reader.locked c column w (Reader.shown (lockFirst + j) (ladder n j) (ltb j n))
+ladder-locked : (n column c w : ℕ) → column ≡ lockLast
+    → Reader.locked c column w (Reader.shown column (ladder n (column - lockFirst)) (arrives column n))
     ≡ gives (entry Kind.lock c 0 0 (min (idCount + 1) n)) (Reader.head (column + 1) w (min (idCount + 1) n))
 unfolding ladder Reader.locked
-ladder-locked n j c column w e =
-    rw (ladder-next n j, e)
+ladder-locked n column c w e =
+    rw (ladder-next n column, e)
     (tested (ltb n (idCount + 1))
     (λ q. let few : min (idCount + 1) n ≡ n = omega (arith, ltb-true) in rw (q, few))
     (λ q. let many : min (idCount + 1) n ≡ idCount + 1 = omega (arith, ltb-false) in rw (q, many)))
@@ -195,22 +201,20 @@ module _ (ks : List Memory) (bs : Bytes ks) (c z z′ : ℕ) where
       → Next ks (framed z f) m (taken z′ (Account.tell c ks p m)) (λ x. taken z′ (Reader.look c r m x))
   unfolding Account.tell Account.asked Reader.look Reader.asked Slave.speak put
   advance all-deaf m t = to (λ i. Slave.deaf) false (deafened m t) all-deaf refl bs tt
-  advance (at-locks column j w e h) m t =
-      rw (← e)
-      (tested (ltb (lockFirst + j) lockLast)
-      (λ q. let next : min idCount (j + 1) ≡ j + 1 = omega (arith, ltb-true) in
+  advance (at-locks column w h) m t =
+      tested (ltb column lockLast)
+      (λ q. let next : min idCount (column + 1 - lockFirst) ≡ column + 1 - lockFirst = omega (arith, ltb-true) in
       rw q
-      (to (λ i. Slave.locks (lockFirst + j + 1) (push w m) (number i (j + 1))) (ltb j (length ks))
-      (rw (q, next) at (lock-column ks z z′ j w m t h))
-      (rw (ladder-next (length ks) j) (at-locks (lockFirst + j + 1) (j + 1) (push w m) (omega arith) (omega (arith, ltb-true))))
-      refl bs tt))
-      (λ q. let next : min idCount (j + 1) ≡ idCount = omega (arith, ltb-false) in
-      let last : j ≡ idCount = omega (arith, ltb-false) in
+      (to (λ i. Slave.locks (column + 1) (push w m) (number i (column + 1 - lockFirst))) (arrives column (length ks))
+      (rw (q, next) at (lock-column ks z z′ column w m t h))
+      (rw (ladder-next (length ks) column) (at-locks (column + 1) (push w m) (omega (arith, ltb-true)))) refl bs tt))
+      (λ q. let next : min idCount (column + 1 - lockFirst) ≡ idCount = omega (arith, ltb-false) in
+      let last : column ≡ lockLast = omega (arith, ltb-false) in
       rw q
-      (to (λ i. Slave.head (lockFirst + j + 1) (push w m) (number i idCount)) (ltb j (length ks))
-      (rw (q, next) at (lock-column ks z z′ j w m t h))
-      (rw (ladder-locked (length ks) j c (lockFirst + j) (push w m) last) (at-head (lockFirst + j + 1) (push w m)))
-      (rw (ladder-locked (length ks) j c (lockFirst + j) (push w m) last)) bs tt)))
+      (to (λ i. Slave.head (column + 1) (push w m) (number i idCount)) (arrives column (length ks))
+      (rw (q, next) at (lock-column ks z z′ column w m t h))
+      (rw (ladder-locked (length ks) column c (push w m) last) (at-head (column + 1) (push w m)))
+      (rw (ladder-locked (length ks) column c (push w m) last)) bs tt))
   advance (at-head column w) m t =
       tested (ltb column headerColumns)
       (λ q. rw q

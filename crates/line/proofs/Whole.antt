@@ -4,7 +4,7 @@ use mathlib.Core.Path.{_≡_, refl, sym, ap, fun-ext}
 use mathlib.Core.Bool.{Bool, true, false}
 use mathlib.Core.List.{List, [], _∷_}
 use mathlib.Core.Option.{Option, none, some}
-use Prim.Native.Nat.{ℕ, suc}
+use Prim.Native.Nat.{ℕ, suc, _-_}
 use native.Mathlib.Omega.{arith}
 use lib.Dec.{leb·suc-zero}
 use lib.ListN.{length}
@@ -24,15 +24,15 @@ use Rattle.line.proofs.Locks.{number}
 use Rattle.line.proofs.Sim.{ladder, Sim, at-locks, Together, waiting, resting, in-frame, kept, Next, advance}
 
 -- S: nobody holds a number, and the reader saw no lock column.
-fresh : _≡_ {A = ℕ → Slave.Phase} (λ i. Slave.locks lockFirst 0 (number i 0)) (λ i. Slave.begun)
+fresh : _≡_ {A = ℕ → Slave.Phase} (λ i. Slave.locks 1 0 (number i (1 - lockFirst))) (λ i. Slave.begun)
 unfolding number
 fresh = fun-ext (λ i. rw (leb·suc-zero i))
 
 begins : (ks : List Memory) → Sim ks Account.begun (λ i. Slave.begun) Reader.begun
 unfolding ladder
 begins ks =
-    let s : Sim ks (Account.locks lockFirst 0) (λ i. Slave.locks lockFirst 0 (number i 0)) (Reader.locks lockFirst 0 (ladder (length ks) 0))
-    = at-locks lockFirst 0 0 refl (omega arith) in
+    let s : Sim ks Account.begun (λ i. Slave.locks 1 0 (number i (1 - lockFirst))) (Reader.locks 1 0 (ladder (length ks) (1 - lockFirst)))
+    = at-locks 1 0 (omega arith) in
     rw (fresh, leb·suc-zero (length ks)) at s
 
 module _ (ks : List Memory) (bs : Bytes ks) (c : ℕ) where
