@@ -19,10 +19,10 @@ lock-on : (c p w : ℕ) (l : Locks) (m x : Bool) → p < idCount
     → look c (locks (lockFirst + min p idCount) w l) m x ≡ go (locks (lockFirst + min (p + 1) idCount) (push w m) (Reader.seen p l x))
 unfolding look
 lock-on c p w l m x h =
-    let a : lockFirst + min p idCount ≡ p + 1 = omega arith in
-    let b : lockFirst + min (p + 1) idCount ≡ p + 1 + 1 = omega arith in
-    let d : p + 1 - lockFirst ≡ p = omega arith in
-    rw (a, b, lt-ltb (p + 1) lockLast (omega arith), le-ltb (p + 1) lockFirst (omega arith), d)
+    let a : lockFirst + min p idCount ≡ lockFirst + p = omega arith in
+    let b : lockFirst + min (p + 1) idCount ≡ lockFirst + p + 1 = omega arith in
+    let d : lockFirst + p - lockFirst ≡ p = omega arith in
+    rw (a, b, lt-ltb (lockFirst + p) lockLast (omega arith), le-ltb (lockFirst + p) lockFirst (omega arith), d)
 
 lock-last : (c p w : ℕ) (l : Locks) (m x : Bool) → idCount ≤ p
     → look c (locks (lockFirst + min p idCount) w l) m x ≡ locked c lockLast (push w m) (Reader.seen idCount l x)
@@ -38,27 +38,62 @@ unfolding Reader.seen locked
 mixed-odd c p w m x h = rw (lock-last c p w mixed m x h)
 
 module _ (c p w w′ : ℕ) (m x : Bool) (q : w′ ≡ push w m) where
+  -- Ones: before IDL0; up to IDL8; at IDL8.
+  abbrev in-ones : Look
+  in-ones = look c (locks (min p (lockLast - 1) + 1) w ones) m x
+
+  abbrev ones-next : Phase
+  ones-next = locks (min (p + 1) (lockLast - 1) + 1) w′ ones
+
+  pub ones-before : p < lockFirst - 1 → seenBy ones-next nothing ≡ seen in-ones
+  unfolding look
+  ones-before h =
+      let a : min p (lockLast - 1) + 1 ≡ p + 1 = omega arith in
+      let b : min (p + 1) (lockLast - 1) + 1 ≡ p + 1 + 1 = omega arith in
+      rw (a, b, lt-ltb (p + 1) lockLast (omega arith), lt-ltb (p + 1) lockFirst (omega arith), q)
+
+  module _ (low : lockFirst - 1 ≤ p) (high : p < lockLast - 1) where
+    idl : ℕ
+    idl = p - (lockFirst - 1)
+
+    ones-at : in-ones ≡ go (locks (lockFirst + min (idl + 1) idCount) (push w m) (Reader.seen idl ones x))
+    unfolding idl
+    ones-at =
+        let a : min p (lockLast - 1) + 1 ≡ lockFirst + min (p - (lockFirst - 1)) idCount = omega arith in
+        rw a (lock-on c (p - (lockFirst - 1)) w ones m x (omega arith))
+
+    pub ones-on : x ≡ true → seenBy ones-next nothing ≡ seen in-ones
+    unfolding Reader.seen idl
+    ones-on e =
+        let b : min (p + 1) (lockLast - 1) + 1 ≡ lockFirst + min (p - (lockFirst - 1) + 1) idCount = omega arith in
+        rw (ones-at, b, q, e)
+
+    pub ones-fall : x ≡ false
+        → seenBy (locks (lockFirst + min (p - (lockFirst - 1) + 1) idCount) w′ (upto ((p - (lockFirst - 1)) % lockBound))) nothing ≡ seen in-ones
+    unfolding Reader.seen idl
+    ones-fall e =
+        let k : (p - (lockFirst - 1)) % lockBound ≡ p - (lockFirst - 1) = omega arith in rw (ones-at, q, e, k)
+
+  module _ (past : lockLast - 1 ≤ p) where
+    ones-last : in-ones ≡ locked c lockLast (push w m) (Reader.seen idCount ones x)
+    ones-last =
+        let a : min p (lockLast - 1) + 1 ≡ lockFirst + min p idCount = omega arith in
+        rw a (lock-last c p w ones m x (omega arith))
+
+    pub ones-nine : x ≡ true → seenBy (head (lockLast + 1) w′ (idCount + 1)) (said 1 0 0 (idCount + 1)) ≡ seen in-ones
+    unfolding Reader.seen locked
+    ones-nine e = rw (ones-last, q, e)
+
+    pub ones-eight : x ≡ false → seenBy (head (lockLast + 1) w′ idCount) (said 1 0 0 idCount) ≡ seen in-ones
+    unfolding Reader.seen locked
+    ones-eight e = rw (ones-last, q, e)
+
+  -- A lock was 0.
   abbrev at : Locks → Look
   at l = look c (locks (lockFirst + min p idCount) w l) m x
 
   abbrev on : Locks → Phase
   on l = locks (lockFirst + min (p + 1) idCount) w′ l
-
-  pub ones-on : p < idCount → x ≡ true → seenBy (on ones) nothing ≡ seen (at ones)
-  unfolding Reader.seen
-  ones-on h e = rw (lock-on c p w ones m x h, q, e)
-
-  pub ones-fall : p < idCount → x ≡ false → seenBy (on (upto (p % lockBound))) nothing ≡ seen (at ones)
-  unfolding Reader.seen
-  ones-fall h e = let k : p % lockBound ≡ p = omega arith in rw (lock-on c p w ones m x h, q, e, k)
-
-  pub ones-nine : idCount ≤ p → x ≡ true → seenBy (head (lockLast + 1) w′ (idCount + 1)) (said 1 0 0 (idCount + 1)) ≡ seen (at ones)
-  unfolding Reader.seen locked
-  ones-nine h e = rw (lock-last c p w ones m x h, q, e)
-
-  pub ones-eight : idCount ≤ p → x ≡ false → seenBy (head (lockLast + 1) w′ idCount) (said 1 0 0 idCount) ≡ seen (at ones)
-  unfolding Reader.seen locked
-  ones-eight h e = rw (lock-last c p w ones m x h, q, e)
 
   module _ (n : ℕ) where
     pub upto-mixed : p < idCount → x ≡ true → seenBy (on mixed) nothing ≡ seen (at (upto n))

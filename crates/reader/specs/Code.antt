@@ -3,8 +3,8 @@
 use mathlib.Core.Path.{_≡_}
 use mathlib.Core.Bool.{Bool}
 use mathlib.Core.Option.{Option, none, some}
-use Prim.Native.Nat.{ℕ, _+_, _%_, _<_, min}
-use Rattle.line.specs.Limits.{idCount, lockFirst, registerCount}
+use Prim.Native.Nat.{ℕ, _+_, _-_, _%_, _<_, min}
+use Rattle.line.specs.Limits.{idCount, lockFirst, lockLast, registerCount}
 use Rattle.line.specs.Bits.{bitOf}
 use Rattle.line.specs.Rest.{Timed, power, rest, frame}
 use Rattle.line.specs.Machine.{Turn}
@@ -34,7 +34,11 @@ lockBound = 16
 abbrev pub lockOf : Body → ℕ
 lockOf b = b .count % lockBound
 
--- The header column of the locks that a body is at.
+-- The header's column that a body is at, up to the last of the locks ..
+abbrev pub columnOf : Body → ℕ
+columnOf b = min (b .place) (lockLast - 1) + 1
+
+-- .. and, once a lock was 0, by the lock columns.
 abbrev pub lockColumn : Body → ℕ
 lockColumn b = lockFirst + min (b .place) idCount
 
@@ -43,7 +47,7 @@ abbrev pub formBy : Kind → Body → Timed Phase
 formBy Power b = power 0
 formBy Rest b = rest
 formBy Deaf b = frame 0 deaf
-formBy Ones b = frame 0 (locks (lockColumn b) (b .word) ones)
+formBy Ones b = frame 0 (locks (columnOf b) (b .word) ones)
 formBy Upto b = frame 0 (locks (lockColumn b) (b .word) (upto (lockOf b)))
 formBy Mixed b = frame 0 (locks (lockColumn b) (b .word) mixed)
 formBy Head b = frame 0 (head (b .place + 1) (b .word) (lockOf b))

@@ -8,12 +8,12 @@ use crate::Body;
 use crate::Kind;
 use crate::Stepped;
 use crate::kinds;
-use crate::made::ID_COUNT;
 use crate::made::LOCK_BOUND;
-use crate::made::REGISTER_COUNT;
 use crate::made::gives;
 use crate::made::go;
 use crate::made::number;
+use machine::IDS;
+use machine::REGISTERS;
 
 // R, with its answer, waits for W.
 pub fn ask_r(zeros: u64, body: Body, m: bool, x: bool) -> Stepped
@@ -32,8 +32,8 @@ pub fn ask_w(zeros: u64, body: Body, m: bool, x: bool) -> Stepped
     ensures { λ r. ⌜ Meets Kind.AskW zeros body m x r ⌝ }
 {
     let r = body.asked == 1;
-    let id = body.id % ID_COUNT;
-    let address = body.address % REGISTER_COUNT;
+    let id = body.id % IDS;
+    let address = body.address % REGISTERS;
     if r == m {
         gives(Kind::Deaf, zeros, body, kinds::PAIR, id, address, 0)
     } else if id < body.count % LOCK_BOUND {
@@ -48,8 +48,8 @@ fn answered(zeros: u64, body: Body, m: bool, x: bool) -> Stepped
     requires { ⌜ (Bool·beq (bitOf (body .asked)) m ≡ false) × (idOf body < lockOf body) ⌝ }
     ensures { λ r. ⌜ Meets Kind.AskW zeros body m x r ⌝ }
 {
-    let id = body.id % ID_COUNT;
-    let address = body.address % REGISTER_COUNT;
+    let id = body.id % IDS;
+    let address = body.address % REGISTERS;
     let r = body.asked == 1;
     let y = body.answered == 1;
     let w = number(m);
@@ -72,8 +72,8 @@ fn unlocked(zeros: u64, body: Body, m: bool, x: bool) -> Stepped
     requires { ⌜ (Bool·beq (bitOf (body .asked)) m ≡ false) × (lockOf body ≤ idOf body) ⌝ }
     ensures { λ r. ⌜ Meets Kind.AskW zeros body m x r ⌝ }
 {
-    let id = body.id % ID_COUNT;
-    let address = body.address % REGISTER_COUNT;
+    let id = body.id % IDS;
+    let address = body.address % REGISTERS;
     let value = both(body.answered == 1, x);
     if value == 0 {
         gives(Kind::Deaf, zeros, body, kinds::ABSENT, id, address, 0)

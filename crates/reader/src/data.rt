@@ -7,26 +7,23 @@ use crate::Body;
 use crate::Kind;
 use crate::Stepped;
 use crate::kinds;
-use crate::made::CHECK;
-use crate::made::DATA;
-use crate::made::ID_COUNT;
-use crate::made::REGISTER_COUNT;
 use crate::made::gives;
 use crate::made::go;
+use machine::BYTES;
+use machine::CHECKS;
+use machine::IDS;
+use machine::REGISTERS;
+use machine::TOP_BIT;
 
-// Byte: "eight data bits, four check bits", the first of which eleven follow.
-const TOP_BIT: u64 = 11;
 // odd: "P answered 0 at address 127".
-const LAST_ADDRESS: u64 = 127;
-// P: "fewer than 64 bytes have passed".
-const BYTE_LIMIT: u64 = 64;
+const LAST_ADDRESS: u64 = REGISTERS - 1;
 
 // mute: "S = 1 answered 0; deaf".
 pub fn byte_s(zeros: u64, body: Body, m: bool, x: bool) -> Stepped
     ensures { λ r. ⌜ Meets Kind.ByteS zeros body m x r ⌝ }
 {
-    let id = body.id % ID_COUNT;
-    let address = body.address % REGISTER_COUNT;
+    let id = body.id % IDS;
+    let address = body.address % REGISTERS;
     let mut n = body;
     n.place = TOP_BIT;
     n.word = 0;
@@ -51,9 +48,9 @@ pub fn reads(zeros: u64, body: Body, m: bool, x: bool) -> Stepped
     ensures { λ r. ⌜ Meets Kind.Reads zeros body m x r ⌝ }
 {
     let word = checkbits::pushed(body.word, x);
-    let value = word / CHECK % DATA;
-    let id = body.id % ID_COUNT;
-    let address = body.address % REGISTER_COUNT;
+    let value = word / CHECKS % 256;
+    let id = body.id % IDS;
+    let address = body.address % REGISTERS;
     let mut n = body;
     if body.place == 0 {
         n.asked = 0;
@@ -74,10 +71,10 @@ pub fn writes(zeros: u64, body: Body, m: bool, x: bool) -> Stepped
     ensures { λ r. ⌜ Meets Kind.Writes zeros body m x r ⌝ }
 {
     let word = checkbits::pushed(body.word, m);
-    let value = word / CHECK % DATA;
+    let value = word / CHECKS % 256;
     let same = echoed(body.answered, m, x);
-    let id = body.id % ID_COUNT;
-    let address = body.address % REGISTER_COUNT;
+    let id = body.id % IDS;
+    let address = body.address % REGISTERS;
     let mut n = body;
     if body.place == 0 {
         n.asked = 1;
@@ -102,12 +99,12 @@ pub fn writes(zeros: u64, body: Body, m: bool, x: bool) -> Stepped
 pub fn ask_p(zeros: u64, body: Body, m: bool, x: bool) -> Stepped
     ensures { λ r. ⌜ Meets Kind.AskP zeros body m x r ⌝ }
 {
-    let id = body.id % ID_COUNT;
-    let address = body.address % REGISTER_COUNT;
+    let id = body.id % IDS;
+    let address = body.address % REGISTERS;
     if x {
         gives(Kind::Deaf, zeros, body, kinds::CLOSED, id, address, 0)
     } else if address < LAST_ADDRESS {
-        if body.count < BYTE_LIMIT {
+        if body.count < BYTES {
             let mut n = body;
             n.address = address + 1;
             n.count = body.count + 1;

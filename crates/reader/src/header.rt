@@ -1,49 +1,60 @@
-// The fifteen columns after S: the locks answered in the first nine, and the header that the last one completes.
+// The fifteen columns after S: the locks, answered in nine of them, and the header that the last one completes.
 ghost use Prim.Native.Nat.{_<_};
 ghost use Rattle.reader.specs.Code.{Meets};
 use crate::Body;
 use crate::Kind;
 use crate::Stepped;
 use crate::kinds;
-use crate::made::CHECK;
-use crate::made::ID_COUNT;
 use crate::made::LOCK_BOUND;
-use crate::made::REGISTER_COUNT;
 use crate::made::gives;
 use crate::made::go;
+use machine::CHECKS;
+use machine::CTS;
+use machine::HEADER;
+use machine::IDS;
+use machine::LOCK_FIRST;
+use machine::LOCK_LAST;
+use machine::REGISTERS;
 
-// Locks: the last of "columns 1 to 9 after S answer IDL0 to IDL8".
-const LAST_LOCK: u64 = 8;
-// Header: the last of "Fifteen columns after S".
-const LAST_HEADER: u64 = 14;
-// Header: CTS stands above the ten bits.
-const CTS: u64 = 1024;
+// The header's columns before IDL0's, before IDL8's and before its own last.
+const IDL0: u64 = LOCK_FIRST - 1;
+
+const IDL8: u64 = LOCK_LAST - 1;
+
+const LAST: u64 = HEADER - 1;
+// lock: "9 if IDL8 is 1 after eight".
+const PAST_EIGHT: u64 = IDS + 1;
 // Header: "CMD (2)", below IDS.
 const COMMANDS: u64 = 4;
 
-// Locks: ones alone so far. lock: "or 9 if IDL8 is 1 after eight".
+// Before IDL0, or ones alone so far. lock: "or 9 if IDL8 is 1 after eight".
 pub fn ones(zeros: u64, body: Body, m: bool, x: bool) -> Stepped
     ensures { λ r. ⌜ Meets Kind.Ones zeros body m x r ⌝ }
 {
     let word = checkbits::pushed(body.word, m);
     let mut n = body;
     n.word = word;
-    if body.place < LAST_LOCK {
+    if body.place < IDL0 {
+        n.place = body.place + 1;
+        go(Kind::Ones, zeros, n)
+    } else if body.place < IDL8 {
         n.place = body.place + 1;
         if x {
             go(Kind::Ones, zeros, n)
         } else {
-            n.count = body.place;
+            let idl = body.place - IDL0;
+            n.place = idl + 1;
+            n.count = idl;
             go(Kind::Upto, zeros, n)
         }
     } else {
-        n.place = LAST_LOCK + 1;
+        n.place = LOCK_LAST;
         if x {
-            n.count = 9;
-            gives(Kind::Head, zeros, n, kinds::LOCK, 0, 0, 9)
+            n.count = PAST_EIGHT;
+            gives(Kind::Head, zeros, n, kinds::LOCK, 0, 0, PAST_EIGHT)
         } else {
-            n.count = 8;
-            gives(Kind::Head, zeros, n, kinds::LOCK, 0, 0, 8)
+            n.count = IDS;
+            gives(Kind::Head, zeros, n, kinds::LOCK, 0, 0, IDS)
         }
     }
 }
@@ -56,7 +67,7 @@ pub fn upto(zeros: u64, body: Body, m: bool, x: bool) -> Stepped
     let lock = body.count % LOCK_BOUND;
     let mut n = body;
     n.word = word;
-    if body.place < LAST_LOCK {
+    if body.place < IDS {
         n.place = body.place + 1;
         if x {
             go(Kind::Mixed, zeros, n)
@@ -64,7 +75,7 @@ pub fn upto(zeros: u64, body: Body, m: bool, x: bool) -> Stepped
             go(Kind::Upto, zeros, n)
         }
     } else {
-        n.place = LAST_LOCK + 1;
+        n.place = LOCK_LAST;
         if x {
             gives(Kind::Deaf, zeros, n, kinds::LOCKODD, 0, 0, 0)
         } else {
@@ -77,7 +88,7 @@ pub fn upto(zeros: u64, body: Body, m: bool, x: bool) -> Stepped
 pub fn mixed(zeros: u64, body: Body, m: bool, x: bool) -> Stepped
     ensures { λ r. ⌜ Meets Kind.Mixed zeros body m x r ⌝ }
 {
-    if body.place < LAST_LOCK {
+    if body.place < IDS {
         let word = checkbits::pushed(body.word, m);
         let mut n = body;
         n.word = word;
@@ -94,15 +105,15 @@ pub fn head(zeros: u64, body: Body, m: bool, x: bool) -> Stepped
 {
     let word = checkbits::pushed(body.word, m);
     let mut n = body;
-    if body.place < LAST_HEADER {
+    if body.place < LAST {
         n.word = word;
         n.place = body.place + 1;
         go(Kind::Head, zeros, n)
     } else if checkbits::header_fits(word) {
-        let v = word / CHECK;
+        let v = word / CHECKS;
         if v / CTS % 2 == 1 {
-            n.id = v / REGISTER_COUNT % ID_COUNT;
-            n.address = v % REGISTER_COUNT;
+            n.id = v / REGISTERS % IDS;
+            n.address = v % REGISTERS;
             go(Kind::AskR, zeros, n)
         } else {
             let ids = v / COMMANDS % 256;

@@ -19,6 +19,7 @@ use header::head;
 use header::mixed;
 use header::ones;
 use header::upto;
+use machine::REST;
 use made::go;
 use made::rests;
 
@@ -26,7 +27,7 @@ pub enum Kind {
     Power,
     Rest,
     Deaf,
-    // The lock columns: ones alone so far, ones and then zeros, any other pattern.
+    // Up to the last lock column: ones alone so far, ones and then zeros, any other pattern.
     Ones,
     Upto,
     Mixed,
@@ -43,7 +44,7 @@ pub enum Kind {
 
 // Every field is 64 bits wide, a flag 0 or 1, so that each keeps a register of its own.
 pub struct Body {
-    // The header's columns before this one; in a byte, the bits after this one.
+    // The header's columns before this one, or once a lock was 0 those of the locks; in a byte, the bits after this one.
     pub place: u64,
     // The bits so far, the newest lowest.
     pub word: u64,
@@ -105,7 +106,7 @@ impl Reader {
         let kind = self.kind;
         let body = self.body;
         let zeros = machine::counted(self.zeros, m);
-        if zeros < machine::REST {
+        if zeros < REST {
             goes_on(kind, zeros, body, m, x)
         } else {
             fourteenth(kind, body)

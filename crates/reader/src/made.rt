@@ -10,16 +10,8 @@ use crate::Reader;
 use crate::Stepped;
 use crate::kinds;
 
-// Locks: "slaves past the eighth have none".
-pub const ID_COUNT: u64 = 8;
-// "A slave has 128 registers".
-pub const REGISTER_COUNT: u64 = 128;
 // A lock value is 9 at most; any bound above it would do.
 pub const LOCK_BOUND: u64 = 16;
-// Header, Byte: "four check bits".
-pub const CHECK: u64 = 16;
-// Byte: "eight data bits".
-pub const DATA: u64 = 256;
 
 // A next state, and nothing to list.
 pub fn go(kind: Kind, zeros: u64, body: Body) -> Stepped

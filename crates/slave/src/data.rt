@@ -7,16 +7,14 @@ use crate::Kind;
 use crate::Seen;
 use crate::Turn;
 use crate::access::allowed;
-use crate::made::CHECKS;
-use crate::made::REGISTERS;
 use crate::made::said;
+use machine::BYTES;
+use machine::CHECKS;
+use machine::REGISTERS;
+use machine::TOP_BIT;
 
-// Byte: "eight data bits, four check bits", counted down to 0; a count is read below the next power of two.
-const TOP_BIT: u64 = 11;
-
+// A byte's bits are counted down to 0; a count is read below the next power of two.
 const COUNTS: u64 = 16;
-// P: "fewer than 64 bytes have passed".
-const BYTES: u64 = 64;
 
 // Byte: "A 0 at S is answered 0 and ends the access; the slave goes deaf. The addressed slave confirms S = 1 at once with 1."
 pub fn byte_s(zeros: u64, body: Body, seen: Seen) -> Turn

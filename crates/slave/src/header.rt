@@ -5,21 +5,15 @@ use crate::Body;
 use crate::Kind;
 use crate::Seen;
 use crate::Turn;
-use crate::made::CHECKS;
-use crate::made::LOCK_FIRST;
-use crate::made::LOCK_LAST;
 use crate::made::NONE;
-use crate::made::REGISTERS;
 use crate::made::said;
-
-// Header: "Fifteen columns after S".
-const HEADER: u64 = 15;
-// Header: "CTS = 1 is a register access: ID (3 bits), address (7)": CTS stands above ten bits, ID above seven.
-const CTS: u64 = 1024;
-
-const ID: u64 = 128;
-
-const IDS: u64 = 8;
+use machine::CHECKS;
+use machine::CTS;
+use machine::HEADER;
+use machine::IDS;
+use machine::LOCK_FIRST;
+use machine::LOCK_LAST;
+use machine::REGISTERS;
 
 // What a lock column makes of it: the number that it holds then, and the bit that it sends.
 struct Lock {
@@ -111,7 +105,7 @@ fn called(word: u64, number: u64) -> bool
 {
     if checkbits::header_fits(word) {
         if word / CHECKS / CTS % 2 == 1 {
-            number == word / CHECKS / ID % IDS
+            number == word / CHECKS / REGISTERS % IDS
         } else {
             false
         }

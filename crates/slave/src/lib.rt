@@ -19,9 +19,9 @@ use data::sends;
 use data::takes;
 use header::head;
 use header::locks;
-use made::LOCK_FIRST;
+use machine::REGISTERS;
+use machine::REST;
 use made::NONE;
-use made::REGISTERS;
 use made::said;
 
 // What a slave is about. After S the names are those of the column that it waits for.
@@ -132,7 +132,7 @@ impl Slave {
         let kind = self.kind;
         let body = self.body;
         let zeros = machine::counted(self.zeros, seen.master);
-        if zeros < machine::REST {
+        if zeros < REST {
             meant(kind, zeros, body, seen)
         } else {
             said(Kind::Rest, 0, body, seen.far, seen.byte)
@@ -182,7 +182,7 @@ fn waited(slave: Slave, master: bool) -> Slave
     let kind = slave.kind;
     let body = slave.body;
     let zeros = machine::counted(slave.zeros, master);
-    if zeros < machine::REST {
+    if zeros < REST {
         Slave {
             kind: kind,
             zeros: zeros,
@@ -202,7 +202,7 @@ fn begun(body: Body) -> Body
     ensures { λ r. ⌜ stateBy Kind.Locks 0 r ≡ frame 0 begun ⌝ }
 {
     let mut n = body;
-    n.column = LOCK_FIRST;
+    n.column = 1;
     n.word = 0;
     n.number = NONE;
     n

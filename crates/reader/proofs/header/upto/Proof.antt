@@ -18,9 +18,6 @@ go-requires c κs = search needs
 go-requires-2 : tie.Need-go-requires-2
 go-requires-2 c κs = search needs
 
-add-n-2 : tie.Need-add-n-2
-add-n-2 c = search needs
-
 gives-requires : tie.Need-gives-requires
 gives-requires c κs = search needs
 
@@ -47,7 +44,6 @@ upto-spec =
     add-n
     go-requires
     go-requires-2
-    add-n-2
     gives-requires
     gives-requires-2
     returns
