@@ -2,10 +2,10 @@
 -- is found piece by piece. Assumes nothing.
 use mathlib.Core.Path.{_≡_, sym, ap, _∙_}
 use mathlib.Core.List.{List, _++_}
-use Prim.Native.Nat.{ℕ, suc, _+_, _*_, _≤_, _<_}
+use Prim.Native.Nat.{ℕ, suc, _+_, _*_, _<_}
 use native.Mathlib.Omega.{arith}
-use borrow.Author.Tests.{lt-ltb, ltb-true, ltb-false}
-use lib.Dec.{ltb}
+use borrow.Author.Tests.{eqb-true, eqb-false}
+use lib.Dec.{eqb}
 use lib.ListN.{length, length-append}
 use Rattle.line.specs.Limits.{columnLimit}
 use Rattle.line.specs.Text.{rowsHeader, orElse, firstBad, badLine, cdmOf}
@@ -18,11 +18,9 @@ use Rattle.answer.proofs.Rows.{answers-bad, answers-long, long-none, lo
 -- The answer to a text with more columns than a row may have.
 pub by-bad-line : (text : List ℕ) (k : ℕ) → columnLimit < length (cdmOf text) → answerText text k ≡ longAnswer (badLine text)
 by-bad-line text k h =
-    tested (ltb 0 (badLine text))
-    (λ q. let bad : 0 < badLine text = ltb-true 0 (badLine text) q in answers-bad text k bad ∙ sym (long-bad _ (λ z. omega arith)))
-    (λ q.
-    let none : badLine text ≡ 0 = omega (arith, ltb-false 0 (badLine text) q) in
-    answers-long text k none h ∙ sym (long-none _ none))
+    tested (eqb (badLine text) 0)
+    (λ q. let none = eqb-true _ _ q in answers-long text k none h ∙ sym (long-none _ none))
+    (λ q. let bad = eqb-false _ _ q in answers-bad text k bad ∙ sym (long-bad _ bad))
 
 -- A first piece of a header and more columns than a row may have, and what comes behind it. Of that, line's in-pieces tells the first bad
 -- line piece by piece.

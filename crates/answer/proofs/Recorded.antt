@@ -1,26 +1,28 @@
 -- What the indexing program makes of two recorded rows, and of any opening column. Assumes nothing.
 use mathlib.Core.Path.{_≡_, sym, _∙_}
 use mathlib.Core.List.{List}
+use mathlib.Core.Option.{none}
 use Prim.Native.Nat.{ℕ, _+_, _≤_, _<_, min}
 use native.Mathlib.Nat.{min-eq-left, min-eq-right}
 use native.Mathlib.Omega.{arith}
-use borrow.Author.Tests.{ltb-true, ltb-false}
-use lib.Dec.{ltb}
+use borrow.Author.Tests.{ltb-true, ltb-false, eqb-true, eqb-false}
+use lib.Dec.{ltb, eqb}
 use lib.ListN.{length}
 use Rattle.line.specs.Limits.{columnLimit}
 use Rattle.line.specs.Entries.{listBytes}
 use Rattle.line.specs.Text.{rowsText, badLine, cdmOf, cdsOf, listText}
 use Rattle.line.proofs.Every.{tested}
 use Rattle.line.proofs.Text.{Back, there-and-back}
+use Rattle.job.specs.Refusals.{alone, refusal, first}
 use Rattle.job.specs.Rows.{wrongRows}
 use Rattle.job.proofs.Bits.{all-bits}
 use Rattle.job.proofs.Rows.{Right, right-rows}
 use Rattle.read.specs.Read.{listOf}
-use Rattle.answer.specs.Answer.{answerText}
-use Rattle.answer.proofs.Rows.{answers-late, answers-shown, answers-rows}
+use Rattle.answer.specs.Answer.{refusedText, answerText}
+use Rattle.answer.proofs.Rows.{answers-late, answers-shown, answers-bad, answers-long, answers-rows}
 
 -- Given two right rows as text, the program prints the list that they show, from any of their columns on.
-pub rows-answered : (cdm cds : List ℕ) (k : ℕ) → wrongRows cdm cds ≡ 0 → k ≤ length cdm
+pub rows-answered : (cdm cds : List ℕ) (k : ℕ) → first (wrongRows cdm cds) ≡ none → k ≤ length cdm
     → answerText (rowsText cdm cds) k ≡ listText (listBytes (listOf k cdm cds))
 rows-answered cdm cds k e h =
     let right : Right cdm cds = right-rows cdm cds e in
@@ -31,15 +33,18 @@ rows-answered cdm cds k e h =
 
 -- Two opening columns past the longest row have the same answer, whatever the text is ..
 late-alike : (text : List ℕ) (j k : ℕ) → columnLimit < j → columnLimit < k → answerText text j ≡ answerText text k
-unfolding answerText
 late-alike text j k p q =
-    tested (ltb 0 (badLine text)) (λ bad. rw bad)
-    (λ good.
-    tested (ltb columnLimit (length (cdmOf text))) (λ long. rw (good, long))
-    (λ short.
-    let within : length (cdmOf text) ≤ columnLimit = ltb-false columnLimit (length (cdmOf text)) short in
-    rw (good, short)
-    (answers-late (cdmOf text) (cdsOf text) j (omega arith) ∙ sym (answers-late (cdmOf text) (cdsOf text) k (omega arith)))))
+    tested (eqb (badLine text) 0)
+    (λ none.
+    let good = eqb-true _ _ none in
+    tested (ltb columnLimit (length (cdmOf text)))
+    (λ over. let long = ltb-true _ _ over in answers-long text j good long ∙ sym (answers-long text k good long))
+    (λ under.
+    let short : length (cdmOf text) ≤ columnLimit = ltb-false _ _ under in
+    let late : (i : ℕ) → columnLimit < i → answerText text i ≡ refusedText (refusal 8 alone)
+    = λ i h. answers-rows text i good short ∙ answers-late (cdmOf text) (cdsOf text) i (omega arith) in
+    late j p ∙ sym (late k q)))
+    (λ some. let bad = eqb-false _ _ some in answers-bad text j bad ∙ sym (answers-bad text k bad))
 
 -- .. so the first of them stands for all: opening's `farthest`, at which it caps the number on the command line, changes no answer.
 pub capped-answer : (text : List ℕ) (k : ℕ) → answerText text (min k (columnLimit + 1)) ≡ answerText text k

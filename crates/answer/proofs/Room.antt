@@ -1,26 +1,27 @@
 -- Every answer fits into the room that the indexing program has for it, so there none is refused by 9. Assumes nothing.
-use mathlib.Core.Path.{_≡_, _∙_}
+use mathlib.Core.Path.{_≡_}
 use mathlib.Core.List.{List, [], _∷_}
-use Prim.Native.Nat.{ℕ, _*_, _^_, _≤_, _<_}
+use Prim.Native.Nat.{ℕ, zero, suc, _*_, _^_, _≤_, _<_}
 use native.Mathlib.Omega.{arith}
-use borrow.Author.Tests.{le-ltb, ltb-true, ltb-false}
-use lib.Dec.{ltb}
+use borrow.Author.Tests.{le-ltb, ltb-true, ltb-false, eqb-true, eqb-false}
+use lib.Dec.{ltb, eqb}
 use lib.ListN.{length, length-append}
 use Rattle.line.specs.Limits.{columnLimit}
 use Rattle.line.specs.Entries.{Entry, bytesOf, listBytes}
 use Rattle.line.specs.Text.{badLine, cdmOf, cdsOf, entryLines}
-use Rattle.line.proofs.Every.{Every, either, tested}
+use Rattle.line.proofs.Every.{Every, tested}
 use Rattle.line.proofs.Codec.{read-back}
 use Rattle.line.proofs.Text.{bad-line-low}
-use Rattle.job.specs.Outcome.{outcome}
+use Rattle.job.specs.Refusals.{alone, on-line, refusal, first}
 use Rattle.job.specs.declared.Outcome.{Outcome}
 use Rattle.job.specs.declared.Outcome.the-variants.{Made}
+use Rattle.job.proofs.Refusals.{ended-none}
 use Rattle.read.specs.Read.{listOf}
 use Rattle.read.proofs.Left.{length-list}
 use Rattle.read.proofs.Bytes.{Small, small-list}
 use Rattle.entries.proofs.Short.{line-short}
 use Rattle.entries.proofs.Lists.{text-length}
-use Rattle.answer.specs.Answer.{fieldsToEnd, refusedText, rowsAnswer, answerText, longAnswer, Whole, Answered}
+use Rattle.answer.specs.Answer.{fields, refusedText, rowsAnswer, answerText, longAnswer, Whole, Answered}
 use Rattle.answer.proofs.Lines.{twenty}
 use Rattle.answer.proofs.Rows.{answers-late, answers-shown, answers-bad, answers-long, answers-rows}
 
@@ -42,13 +43,13 @@ lines-short limit (e ∷ es) l h =
       lines-short limit es l (h .1),
     ))
 
--- The line of a refusal: a number of one digit, or 11 and a line of at most twenty.
-number-fits : (why : ℕ) → why < 10 → length (refusedText (why ∷ [])) ≤ answerRoom
-unfolding refusedText fieldsToEnd
-number-fits why h = simp length-append (omega (arith, twenty why (omega arith)))
+-- The line of a refusal, whose numbers have at most twenty digits.
+number-fits : (why : ℕ) → why < 2 ^ 64 → length (refusedText (refusal why alone)) ≤ answerRoom
+unfolding refusedText fields
+number-fits why h = simp length-append (omega (arith, twenty why h))
 
-line-fits : (line : ℕ) → line < 2 ^ 64 → length (refusedText (11 ∷ line ∷ [])) ≤ answerRoom
-unfolding refusedText fieldsToEnd
+line-fits : (line : ℕ) → line < 2 ^ 64 → length (refusedText (refusal 11 (on-line line))) ≤ answerRoom
+unfolding refusedText fields
 line-fits line h = simp length-append (omega (arith, twenty 11 (omega arith), twenty line h))
 
 rows-fit : (cdm cds : List ℕ) (k : ℕ) → length cdm ≤ columnLimit → length (rowsAnswer cdm cds k) ≤ answerRoom
@@ -67,31 +68,32 @@ rows-fit cdm cds k h =
 -- The list, or a refusal; a text in memory has fewer than 2 ^ 63 bytes.
 pub answer-fits : (text : List ℕ) (k : ℕ) → length text < 2 ^ 63 → length (answerText text k) ≤ answerRoom
 answer-fits text k h =
-    tested (ltb 0 (badLine text))
-    (λ q. rw (answers-bad text k (ltb-true 0 (badLine text) q)) (line-fits (badLine text) (omega (arith, bad-line-low text))))
+    tested (eqb (badLine text) 0)
     (λ q.
-    let good : badLine text ≡ 0 = omega (arith, ltb-false 0 (badLine text) q) in
+    let good = eqb-true _ _ q in
     tested (ltb columnLimit (length (cdmOf text)))
     (λ r. rw (answers-long text k good (ltb-true columnLimit (length (cdmOf text)) r)) (number-fits 5 (omega arith)))
     (λ r.
     let short : length (cdmOf text) ≤ columnLimit = ltb-false columnLimit (length (cdmOf text)) r in
     rw (answers-rows text k good short) (rows-fit (cdmOf text) (cdsOf text) k short)))
+    (λ q. rw (answers-bad text k (eqb-false _ _ q)) (line-fits (badLine text) (omega (arith, bad-line-low text))))
 
 -- The same of a text with more columns than a row may have, by its first bad line.
 long-fits : (bad : ℕ) → bad < 2 ^ 64 → length (longAnswer bad) ≤ answerRoom
 unfolding longAnswer
-long-fits bad h = either (λ (l : List ℕ). length l ≤ answerRoom) (ltb 0 bad) (line-fits bad h) (number-fits 5 (omega arith))
+long-fits zero h = number-fits 5 (omega arith)
+long-fits (suc n) h = line-fits (suc n) h
 
 -- What fits is made.
-module _ (lent : List ℕ) (room : answerRoom ≤ length lent) {answer : Outcome} {after : List ℕ} where
-  fits-made : (text : List ℕ) → length text ≤ answerRoom → Whole text lent answer after → answer ≡ Made (length text)
-  unfolding outcome
+module _ (out : List ℕ) (room : answerRoom ≤ length out) {answer : Outcome} {after : List ℕ} where
+  fits-made : (text : List ℕ) → length text ≤ answerRoom → Whole text out answer after → answer ≡ Made (length text)
+  unfolding first
   fits-made text h printed =
-      let fits : length text ≤ length lent = omega arith in printed .answers ∙ rw (le-ltb (length lent) (length text) fits)
+      let fits : length text ≤ length out = omega arith in ended-none printed (rw (le-ltb (length out) (length text) fits))
 
-  pub answer-made : (text : List ℕ) (k : ℕ) → length text < 2 ^ 63 → Answered text k lent answer after
+  pub answer-made : (text : List ℕ) (k : ℕ) → length text < 2 ^ 63 → Answered text k out answer after
       → answer ≡ Made (length (answerText text k))
   answer-made text k h = fits-made (answerText text k) (answer-fits text k h)
 
-  pub long-made : (bad : ℕ) → bad < 2 ^ 64 → Whole (longAnswer bad) lent answer after → answer ≡ Made (length (longAnswer bad))
+  pub long-made : (bad : ℕ) → bad < 2 ^ 64 → Whole (longAnswer bad) out answer after → answer ≡ Made (length (longAnswer bad))
   long-made bad h = fits-made (longAnswer bad) (long-fits bad h)

@@ -1,37 +1,71 @@
 -- What the jobs say that the answer calls, in rooms that any result fits. Assumes nothing.
 use mathlib.Core.Path.{_≡_, refl, sym, ap, _∙_}
-use mathlib.Core.Bool.{true, false, cond}
+use mathlib.Core.Bool.{true}
 use mathlib.Core.List.{List, [], _∷_}
-use Prim.Native.Nat.{ℕ, _+_, _*_, _%_, _≤_, _<_}
+use mathlib.Core.Option.{none, orElse}
+use Prim.Native.Nat.{ℕ, _*_, _%_, _≤_, _<_}
 use native.Mathlib.Omega.{arith}
-use borrow.Author.Tests.{lt-ltb, le-ltb, ltb-true, ltb-false, le-leb}
+use borrow.Author.Tests.{lt-ltb, le-ltb, ltb-false, le-leb}
 use lib.Dec.{ltb}
-use lib.ListN.{length, length-append, take, drop, getD}
+use lib.ListN.{length, take, drop, getD}
 use Rattle.line.specs.Limits.{columnLimit}
 use Rattle.line.specs.Entries.{listBytes}
 use Rattle.line.specs.Text.{badLine, rowIn, cdmOf, cdsOf, isList, listText}
 use Rattle.line.proofs.Every.{tested}
 use Rattle.line.proofs.Codec.{bytes-list}
-use Rattle.job.specs.Outcome.{outcome, leaves, noneAbove, areBits}
+use Rattle.job.specs.Bytes.{noneAbove, areBits}
+use Rattle.job.specs.Refusals.{alone, on-line, refusal, Rule, when, found, first, detail, lent, left}
+use Rattle.job.specs.Rows.{wrongRows}
 use Rattle.job.specs.declared.Outcome.{Outcome}
 use Rattle.job.specs.declared.Outcome.the-variants.{Made, Refused}
-use Rattle.job.specs.Rows.{wrongRows}
-use Rattle.job.proofs.Ends.{result-first}
+use Rattle.job.proofs.Refusals.{no, keeps, passes, same-rules, was-made, was-refused, result-fits, result-first}
 use Rattle.job.proofs.Rows.{right-rows, not-wrong}
-use Rattle.read.specs.Read.{listOf, refusal, Listed}
+use Rattle.read.specs.Read.{listOf, refusals, Listed}
 use Rattle.read.proofs.Filled.{length-bytes}
 use Rattle.read.proofs.Left.{length-list}
-use Rattle.entries.specs.Lists.{listRefusal, ListPrinted}
-use Rattle.carry.specs.Carry.{textRoom, textRefusal, taken, RowsTaken}
-use Rattle.carry.specs.declared.Taken.{Taken}
-use Rattle.carry.specs.declared.Taken.the-variants as Answer
-use Rattle.carry.proofs.Ends.{columns-in}
-use Rattle.answer.specs.Answer.{refusedText, rowsAnswer, answerText, longAnswer, Whole}
+use Rattle.entries.specs.Lists.{listRefusals, ListPrinted}
+use Rattle.carry.specs.Carry.{badForm, textRoom, textRefusals, RowsTaken}
+use Rattle.carry.proofs.Ends.{columns-in, form-good, form-bad}
+use Rattle.answer.specs.Answer.{refusedText, printed, answerRefusals, answerText, rowsAnswer, longAnswer, Whole}
 
--- A buffer is no shorter than the result in it.
-fits : (result lent : List ℕ) {n : ℕ} → n ≡ length result → n ≤ length (leaves 0 result lent)
-unfolding leaves
-fits result lent e = omega (arith, length-append result (drop (length result) lent))
+-- What is printed in each case.
+module _ (cdm cds : List ℕ) (k : ℕ) where
+  pub answers-late : length cdm < k → rowsAnswer cdm cds k ≡ refusedText (refusal 8 alone)
+  unfolding rowsAnswer printed first
+  answers-late h = rw (lt-ltb (length cdm) k h)
+
+  pub answers-shown : k ≤ length cdm → rowsAnswer cdm cds k ≡ listText (listBytes (listOf k cdm cds))
+  unfolding rowsAnswer printed first
+  answers-shown h = rw (le-ltb (length cdm) k h)
+
+  pub answers-list : k ≤ length cdm → {list : List ℕ} → list ≡ listBytes (listOf k cdm cds) → {out after : List ℕ} {answer : Outcome}
+      → ListPrinted list out answer after → Whole (rowsAnswer cdm cds k) out answer after
+  unfolding listRefusals first
+  answers-list h {list} e printed =
+      rw (answers-shown h, ← e) (same-rules printed (rw (ap isList e ∙ bytes-list (listOf k cdm cds))))
+
+module _ (text : List ℕ) (k : ℕ) where
+  pub answers-bad : (badLine text ≡ 0 → ⊥) → answerText text k ≡ refusedText (refusal 11 (on-line (badLine text)))
+  unfolding answerText answerRefusals printed first orElse
+  answers-bad h = rw (form-bad (badLine text) h)
+
+  module _ (good : badLine text ≡ 0) where
+    pub answers-long : columnLimit < length (cdmOf text) → answerText text k ≡ refusedText (refusal 5 alone)
+    unfolding answerText answerRefusals printed first orElse
+    answers-long h = rw (good, lt-ltb columnLimit (length (cdmOf text)) h)
+
+    pub answers-rows : length (cdmOf text) ≤ columnLimit → answerText text k ≡ rowsAnswer (cdmOf text) (cdsOf text) k
+    unfolding answerText answerRefusals rowsAnswer first orElse
+    answers-rows h = rw (good, le-ltb columnLimit (length (cdmOf text)) h)
+
+module _ (bad : ℕ) where
+  pub long-none : bad ≡ 0 → longAnswer bad ≡ refusedText (refusal 5 alone)
+  unfolding longAnswer
+  long-none e = rw e
+
+  pub long-bad : (bad ≡ 0 → ⊥) → longAnswer bad ≡ refusedText (refusal 11 (on-line bad))
+  unfolding longAnswer
+  long-bad h = rw (form-bad bad h)
 
 -- Rows that a text was taken into.
 pub record Rows (text cdm cds : List ℕ) (n : ℕ) : Type 0 where
@@ -42,64 +76,65 @@ pub record Rows (text cdm cds : List ℕ) (n : ℕ) : Type 0 where
   pub cdm-row : take n cdm ≡ cdmOf text
   pub cds-row : take n cds ≡ cdsOf text
 
--- What text to rows answers where each lent row holds any row: columns, 5 or a bad line.
-abbrev pub Says : (text cdm cds : List ℕ) → Taken → Type 0
-Says text cdm cds (Answer.Columns n) = Rows text cdm cds n
-Says text cdm cds (Answer.Refused n) = (badLine text ≡ 0) × (columnLimit < length (cdmOf text)) × (n ≡ 5)
-Says text cdm cds (Answer.BadLine n) = (0 < badLine text) × (n ≡ badLine text)
+-- What text to rows answers where each lent row holds any row: columns, or a refusal that is printed.
+abbrev pub Says : (text cdm cds : List ℕ) → Outcome → Type 0
+Says text cdm cds (Made n) = Rows text cdm cds n
+Says text cdm cds (Refused number beside) = (k : ℕ) → answerText text k ≡ refusedText (refusal number (detail beside))
 
-pub says : (text cdm cds : List ℕ) {answer : Taken} {m s : List ℕ} → columnLimit ≡ length cdm → columnLimit ≡ length cds
-    → RowsTaken text cdm cds answer m s → Says text m s answer
-unfolding textRefusal textRoom taken
-says text cdm cds {answer} {m} {s} cdm-room cds-room t =
-    let same : length (cdmOf text) ≡ length (cdsOf text) = columns-in text .0 ∙ sym (columns-in text .1) in
-    tested (ltb 0 (badLine text)) (λ bad. rw (t .answers, bad) (ltb-true _ _ bad, refl))
-    (λ good.
-    let none : badLine text ≡ 0 = omega (arith, ltb-false 0 (badLine text) good) in
-    tested (ltb columnLimit (length (cdmOf text)))
-    (λ over. rw (t .answers, good, over) (none, ltb-true columnLimit (length (cdmOf text)) over, refl))
-    (λ under.
-    let short : length (cdmOf text) ≤ columnLimit = ltb-false columnLimit (length (cdmOf text)) under in
-    let room : length (cdmOf text) ≤ length cdm = omega arith in
-    let room′ : length (cdmOf text) ≤ length cds = omega arith in
-    let in-m : m ≡ leaves 0 (cdmOf text) cdm = t .leaves-cdm ∙ rw (good, under, le-ltb _ _ room, le-ltb _ _ room′) in
-    let in-s : s ≡ leaves 0 (cdsOf text) cds = t .leaves-cds ∙ rw (good, under, le-ltb _ _ room, le-ltb _ _ room′) in
-    rw (t .answers, good, under, le-ltb _ _ room, le-ltb _ _ room′)
-    (record {
-      good = none;
-      short = short;
-      in-cdm = rw in-m (fits (cdmOf text) cdm refl);
-      in-cds = rw in-s (fits (cdsOf text) cds same);
-      cdm-row = rw in-m (result-first 0 (cdmOf text) cdm refl);
-      cds-row = rw (in-s, same) (result-first 0 (cdsOf text) cds refl);
-    })))
+module _ (text cdm cds : List ℕ) (cdm-room : columnLimit ≡ length cdm) (cds-room : columnLimit ≡ length cds) where
+  -- There is room for every row that 5 lets through.
+  abbrev form : List Rule
+  form = found 11 (badForm (badLine text)) ∷ when (ltb columnLimit (length (cdmOf text))) 5 ∷ []
 
--- What read answers for right rows where the lent list holds any list: the list, or 8.
+  by-form : first (textRefusals text (length cdm) (length cds)) ≡ first form
+  unfolding textRefusals textRoom first orElse
+  by-form =
+      rw (← cdm-room, ← cds-room) (tested (ltb columnLimit (length (cdmOf text))) (λ over. rw over) (λ under. rw under))
+
+  pub says : (answer : Outcome) {m s : List ℕ} → RowsTaken text cdm cds answer m s → Says text m s answer
+  unfolding answerText answerRefusals printed
+  says (Made n) {m} {s} t =
+      let done = was-made (t .ends) in
+      let none-given : first form ≡ none = sym by-form ∙ done .0 in
+      let both : length (cdmOf text) ≡ length (cdsOf text) = columns-in text .0 ∙ sym (columns-in text .1) in
+      let in-m : m ≡ left none (lent (cdmOf text) cdm) = cc in
+      let in-s : s ≡ left none (lent (cdsOf text) cds) = cc in
+      record {
+        good = form-good (badLine text) (no 11 form none-given);
+        short = ltb-false _ _ (no 5 form none-given);
+        in-cdm = rw (in-m, done .1) (result-fits (cdmOf text) cdm);
+        in-cds = rw (in-s, done .1, both) (result-fits (cdsOf text) cds);
+        cdm-row = rw (in-m, done .1) (result-first (cdmOf text) cdm);
+        cds-row = rw (in-s, done .1, both) (result-first (cdsOf text) cds);
+      }
+  says (Refused number beside) t = λ k. rw (keeps form _ _ (sym by-form ∙ was-refused (t .ends)))
+
+-- What read answers for right rows where the lent list holds any list: the list, or a refusal that is printed.
 abbrev pub Lists : (cdm cds : List ℕ) → (k : ℕ) → (after : List ℕ) → Outcome → Type 0
 Lists cdm cds k after (Made n) = (k ≤ length cdm) × (6 * n ≤ length after) × (take (6 * n) after ≡ listBytes (listOf k cdm cds))
-Lists cdm cds k after (Refused n) = (length cdm < k) × (n ≡ 8)
+Lists cdm cds k after (Refused number beside) = rowsAnswer cdm cds k ≡ refusedText (refusal number (detail beside))
 
-module _ (cdm cds : List ℕ) (k : ℕ) (none-wrong : wrongRows cdm cds ≡ 0) where
-  list-short : length (listBytes (listOf k cdm cds)) ≤ 6 * columnLimit
-  list-short = omega (arith, right-rows cdm cds none-wrong .short, length-bytes (listOf k cdm cds), length-list k cdm cds)
-
+module _ (cdm cds : List ℕ) (k : ℕ) (right : first (wrongRows cdm cds) ≡ none) (out : List ℕ) (room : 6 * columnLimit ≡ length out) where
   -- Only the opening column can be refused.
-  by-opening : (room : ℕ) → 6 * columnLimit ≡ room → refusal cdm cds k room ≡ cond (ltb (length cdm) k) 8 0
-  unfolding refusal
-  by-opening room e =
-      rw (none-wrong, le-ltb room (length (listBytes (listOf k cdm cds))) (omega (arith, list-short)))
+  abbrev opening : List Rule
+  opening = when (ltb (length cdm) k) 8 ∷ []
 
-  pub lists : (lent : List ℕ) {answer : Outcome} {after : List ℕ} → 6 * columnLimit ≡ length lent → Listed cdm cds k lent answer after
-      → Lists cdm cds k after answer
-  unfolding outcome
-  lists lent {answer} {after} room l =
+  by-opening : first (refusals cdm cds k (length out)) ≡ first opening
+  unfolding refusals first
+  by-opening =
+      let short : length (listBytes (listOf k cdm cds)) ≤ length out =
+      omega (arith, right-rows cdm cds right .short, length-bytes (listOf k cdm cds), length-list k cdm cds) in
+      passes (wrongRows cdm cds) _ right ∙ rw (le-ltb _ _ short)
+
+  pub lists : (answer : Outcome) {after : List ℕ} → Listed cdm cds k out answer after → Lists cdm cds k after answer
+  unfolding rowsAnswer printed
+  lists (Made n) {after} l =
+      let done = was-made (l .ends) in
       let list : List ℕ = listBytes (listOf k cdm cds) in
-      tested (ltb (length cdm) k) (λ late. rw (l .answers, by-opening _ room, late) (ltb-true _ _ late, refl))
-      (λ within.
-      let six : length list ≡ 6 * length (listOf k cdm cds) = length-bytes (listOf k cdm cds) in
-      let laid : after ≡ leaves 0 list lent = l .leaves-list ∙ rw (by-opening _ room, within) in
-      rw (l .answers, by-opening _ room, within)
-      (ltb-false _ _ within, rw laid (fits list lent (sym six)), rw (laid, ← six) (result-first 0 list lent refl)))
+      let six : 6 * n ≡ length list = omega (arith, length-bytes (listOf k cdm cds), done .1) in
+      let there : after ≡ left none (lent list out) = cc in
+      (ltb-false _ _ (no 8 opening (sym by-opening ∙ done .0)), rw (there, six) (result-fits list out), rw (there, six) (result-first list out))
+  lists (Refused number beside) l = rw (sym by-opening ∙ was-refused (l .ends))
 
 -- The rows of a text are never wrong in their bytes, and of one length.
 row-bits : (place : ℕ) (text : List ℕ) → areBits (rowIn place text) ≡ true
@@ -111,7 +146,7 @@ row-bits place (a ∷ b ∷ c ∷ []) = refl
 row-bits place (a ∷ b ∷ c ∷ d ∷ text) =
     rw (le-leb (getD (a ∷ b ∷ c ∷ d ∷ []) place 0 % 2) 1 (omega arith), row-bits place text)
 
-pub rows-right : {text cdm cds : List ℕ} {n : ℕ} → Rows text cdm cds n → wrongRows (take n cdm) (take n cds) ≡ 0
+pub rows-right : {text cdm cds : List ℕ} {n : ℕ} → Rows text cdm cds n → first (wrongRows (take n cdm) (take n cds)) ≡ none
 unfolding cdmOf cdsOf
 rows-right {text} rows =
     let long = columns-in text in
@@ -123,42 +158,3 @@ rows-right {text} rows =
       cdm-bits = row-bits 0 (drop 8 text);
       cds-bits = row-bits 2 (drop 8 text);
     }))
-
--- What is printed in each case.
-module _ (cdm cds : List ℕ) (k : ℕ) where
-  pub answers-late : length cdm < k → rowsAnswer cdm cds k ≡ refusedText (8 ∷ [])
-  unfolding rowsAnswer
-  answers-late h = rw (lt-ltb (length cdm) k h)
-
-  pub answers-shown : k ≤ length cdm → rowsAnswer cdm cds k ≡ listText (listBytes (listOf k cdm cds))
-  unfolding rowsAnswer
-  answers-shown h = rw (le-ltb (length cdm) k h)
-
-  pub answers-list : k ≤ length cdm → {list : List ℕ} → list ≡ listBytes (listOf k cdm cds) → {lent after : List ℕ} {answer : Outcome}
-      → ListPrinted list lent answer after → Whole (rowsAnswer cdm cds k) lent answer after
-  unfolding listRefusal
-  answers-list h {list} e {lent} {after} {answer} printed =
-      rw (answers-shown h, ← e) (rw (ap isList e ∙ bytes-list (listOf k cdm cds)) at printed)
-
-module _ (text : List ℕ) (k : ℕ) where
-  pub answers-bad : 0 < badLine text → answerText text k ≡ refusedText (11 ∷ badLine text ∷ [])
-  unfolding answerText
-  answers-bad h = rw (lt-ltb 0 (badLine text) h)
-
-  module _ (good : badLine text ≡ 0) where
-    pub answers-long : columnLimit < length (cdmOf text) → answerText text k ≡ refusedText (5 ∷ [])
-    unfolding answerText
-    answers-long h = rw (good, lt-ltb columnLimit (length (cdmOf text)) h)
-
-    pub answers-rows : length (cdmOf text) ≤ columnLimit → answerText text k ≡ rowsAnswer (cdmOf text) (cdsOf text) k
-    unfolding answerText
-    answers-rows h = rw (good, le-ltb columnLimit (length (cdmOf text)) h)
-
-module _ (bad : ℕ) where
-  pub long-none : bad ≡ 0 → longAnswer bad ≡ refusedText (5 ∷ [])
-  unfolding longAnswer
-  long-none e = rw e
-
-  pub long-bad : (bad ≡ 0 → ⊥) → longAnswer bad ≡ refusedText (11 ∷ bad ∷ [])
-  unfolding longAnswer
-  long-bad h = rw (lt-ltb 0 bad (omega arith))

@@ -1,45 +1,62 @@
 -- What the indexing program prints for a text of two rows and an opening column. The texts themselves are line's (specs/Text).
-use mathlib.Core.Bool.{cond}
 use mathlib.Core.List.{List, [], _∷_, _++_}
+use mathlib.Core.Option.{Option, none, some, Option·getD}
 use Prim.Native.Nat.{ℕ}
 use lib.Dec.{ltb}
 use lib.ListN.{length}
 use Rattle.line.specs.Limits.{columnLimit}
 use Rattle.line.specs.Entries.{bytes, listBytes}
 use Rattle.line.specs.Text.{tab, feed, decimal, badLine, cdmOf, cdsOf, listText}
+use Rattle.job.specs.Refusals.{Detail, alone, on-line, Refusal, refusal, Rule, when, found, first}
 use Rattle.job.specs.declared.Outcome.{Outcome}
 use Rattle.print.specs.Printed.{Printed}
 use Rattle.read.specs.Read.{listOf}
+use Rattle.carry.specs.Carry.{badForm}
 
--- Numbers in decimal, each behind its TAB, to the end of the line.
-unfoldable pub fieldsToEnd : (numbers : List ℕ) → List ℕ
-fieldsToEnd [] = feed ∷ []
-fieldsToEnd (n ∷ ns) = tab ∷ decimal n ++ fieldsToEnd ns
+-- Numbers in decimal, each behind its TAB.
+unfoldable pub fields : (numbers : List ℕ) → List ℕ
+fields [] = []
+fields (n ∷ ns) = tab ∷ decimal n ++ fields ns
 
--- The line of a refusal: its number, "11 also a line".
-unfoldable pub refusedText : (numbers : List ℕ) → List ℕ
-refusedText numbers = bytes "refused" ++ fieldsToEnd numbers
+-- What is told beside a refusal's number, as numbers.
+abbrev pub values : Detail → List ℕ
+values alone = []
+values (on-line line) = line ∷ []
 
--- Of two rows of one length that hold bits, "Read" can refuse only the opening column (8): the list of what they show, as text.
-unfoldable pub rowsAnswer : (cdm cds : List ℕ) → (opening : ℕ) → List ℕ
-rowsAnswer cdm cds opening =
-    cond (ltb (length cdm) opening) (refusedText (8 ∷ [])) (listText (listBytes (listOf opening cdm cds)))
+-- "On a refusal it prints only `refused` TAB number (for 11 TAB line too) LF."
+unfoldable pub refusedText : Refusal → List ℕ
+refusedText (refusal number beside) = bytes "refused" ++ fields (number ∷ values beside) ++ feed ∷ []
 
--- "Text to rows: 11, 5", then "Read". The rows of a text are of one length and hold bits, and there is room for any list.
+-- That line, or where nothing is refused the list of what two rows show, as text.
+unfoldable pub printed : Option Refusal → (cdm cds : List ℕ) → (opening : ℕ) → List ℕ
+printed none cdm cds opening = listText (listBytes (listOf opening cdm cds))
+printed (some r) cdm cds opening = refusedText r
+
+-- "Text to rows: 11, 5", then "Read": the rows of a text are of one length and hold bits, and there is room for any list, so of the
+-- reader's own refusals only 8 is left.
+unfoldable pub answerRefusals : (text : List ℕ) → (opening : ℕ) → List Rule
+answerRefusals text opening =
+    found 11 (badForm (badLine text))
+    ∷ when (ltb columnLimit (length (cdmOf text))) 5
+    ∷ when (ltb (length (cdmOf text)) opening) 8
+    ∷ []
+
+-- What is printed for a text.
 unfoldable pub answerText : (text : List ℕ) → (opening : ℕ) → List ℕ
-answerText text opening =
-    cond (ltb 0 (badLine text)) (refusedText (11 ∷ badLine text ∷ []))
-    (cond (ltb columnLimit (length (cdmOf text))) (refusedText (5 ∷ []))
-    (rowsAnswer (cdmOf text) (cdsOf text) opening))
+answerText text opening = printed (first (answerRefusals text opening)) (cdmOf text) (cdsOf text) opening
+
+-- The same of two rows of one length that hold bits.
+unfoldable pub rowsAnswer : (cdm cds : List ℕ) → (opening : ℕ) → List ℕ
+rowsAnswer cdm cds opening = printed (first (when (ltb (length cdm) opening) 8 ∷ [])) cdm cds opening
 
 -- The same of a text that has more columns than a row may have, by its first bad line, or 0 for none: "11, 5".
 unfoldable pub longAnswer : (bad : ℕ) → List ℕ
-longAnswer bad = cond (ltb 0 bad) (refusedText (11 ∷ bad ∷ [])) (refusedText (5 ∷ []))
+longAnswer bad = refusedText (Option·getD (badForm bad) (refusal 5 alone))
 
 -- A text printed whole, or refused by 9: "the result needs more room than was lent, and only then".
-abbrev pub Whole : (text lent : List ℕ) → Outcome → (after : List ℕ) → Type 0
-Whole text lent answer after = Printed (cond (ltb (length lent) (length text)) 9 0) text lent answer after
+abbrev pub Whole : (text out : List ℕ) → Outcome → (after : List ℕ) → Type 0
+Whole text out answer after = Printed (when (ltb (length out) (length text)) 9 ∷ []) text out answer after
 
 -- What answer promises.
-abbrev pub Answered : (text : List ℕ) → (opening : ℕ) → (lent : List ℕ) → Outcome → (after : List ℕ) → Type 0
-Answered text opening lent answer after = Whole (answerText text opening) lent answer after
+abbrev pub Answered : (text : List ℕ) → (opening : ℕ) → (out : List ℕ) → Outcome → (after : List ℕ) → Type 0
+Answered text opening out answer after = Whole (answerText text opening) out answer after

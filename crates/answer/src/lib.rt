@@ -1,11 +1,13 @@
 // What the indexing program prints for a text of two rows: their list as text, or the line of a refusal.
 ghost use mathlib.Core.Path.{_≡_};
-ghost use mathlib.Core.List.{_∷_, [], _++_};
-ghost use Prim.Native.Nat.{_≤_};
+ghost use mathlib.Core.Option.{none};
+ghost use Prim.Native.Nat.{_+_, _≤_};
 ghost use lib.ListN.{length};
+ghost use Rattle.job.specs.Refusals.{refusal, detail, first};
 ghost use Rattle.job.specs.Rows.{wrongRows};
-ghost use Rattle.answer.specs.Answer.{fieldsToEnd, refusedText, rowsAnswer, longAnswer, Whole, Answered};
-use carry::Taken;
+ghost use Rattle.print.specs.Laid.{Laid};
+ghost use Rattle.answer.specs.Answer.{fields, values, refusedText, rowsAnswer, longAnswer, Whole, Answered};
+use job::Detail;
 use job::Outcome;
 
 // Columns: "A row has 0 to 4,096 columns."
@@ -16,8 +18,8 @@ const ENTRY: usize = 6;
 
 const LIST_LIMIT: usize = 24576;
 
-// The words of a refusal, a TAB, a number of at most twenty digits, LF.
-const TOLD_LIMIT: usize = 32;
+// More than the line of a refusal: the word, its number, values of at most twenty digits beside it, their TABs and LF.
+const REFUSAL_LIMIT: usize = 64;
 
 // The list of a text of two rows from an opening column on, or the line of the refusal: 11, 5, 8.
 pub fn answer(text: &[u8], opening: usize, out: &mut [u8]) -> Outcome
@@ -27,9 +29,8 @@ pub fn answer(text: &[u8], opening: usize, out: &mut [u8]) -> Outcome
     let mut cds = row();
     let taken = carry::text_to_rows(text, &mut cdm, &mut cds);
     match taken {
-        Taken::Columns(n) => rows_answer(&cdm[..n], &cds[..n], opening, out),
-        Taken::Refused(number) => refused(number, out),
-        Taken::BadLine(line) => bad_line(line, out),
+        Outcome::Made(n) => rows_answer(&cdm[..n], &cds[..n], opening, out),
+        Outcome::Refused(number, beside) => refused(number, beside, out),
     }
 }
 
@@ -38,49 +39,46 @@ pub fn long_answer(bad: usize, out: &mut [u8]) -> Outcome
     ensures { λ r. ⌜ Whole (longAnswer bad) (now (out .entry)) r (now (out .exit)) ⌝ }
 {
     if bad == 0 {
-        refused(5, out)
+        refused(5, Detail::Alone, out)
     } else {
-        bad_line(bad, out)
+        refused(11, Detail::OnLine(bad), out)
     }
 }
 
 // The list of two rows as text, or the line of refusal 8.
 fn rows_answer(cdm: &[u8], cds: &[u8], opening: usize, out: &mut [u8]) -> Outcome
-    requires { ⌜ wrongRows (now cdm) (now cds) ≡ 0 ⌝ }
+    requires { ⌜ first (wrongRows (now cdm) (now cds)) ≡ none ⌝ }
     ensures { λ r. ⌜ Whole (rowsAnswer (now (cdm .entry)) (now (cds .entry)) opening) (now (out .entry)) r (now (out .exit)) ⌝ }
 {
     let mut list = list_room();
     let listed = read::read(cdm, cds, opening, &mut list);
     match listed {
         Outcome::Made(n) => entries::list_to_text(&list[..ENTRY * n], out),
-        Outcome::Refused(number) => refused(number, out),
+        Outcome::Refused(number, beside) => refused(number, beside, out),
     }
 }
 
-// The line of a refusal without a line number.
-fn refused(number: u8, out: &mut [u8]) -> Outcome
-    ensures { λ r. ⌜ Whole (refusedText (number ∷ [])) (now (out .entry)) r (now (out .exit)) ⌝ }
+// The line of a refusal: its number, and what is told beside it.
+fn refused(number: u8, beside: Detail, out: &mut [u8]) -> Outcome
+    ensures { λ r. ⌜ Whole (refusedText (refusal number (detail beside))) (now (out .entry)) r (now (out .exit)) ⌝ }
 {
-    told(b"refused", number as u64, out)
-}
-
-// Refusal 11, with the first bad line.
-fn bad_line(line: usize, out: &mut [u8]) -> Outcome
-    ensures { λ r. ⌜ Whole (refusedText (11 ∷ line ∷ [])) (now (out .entry)) r (now (out .exit)) ⌝ }
-{
-    told(b"refused\t11", line as u64, out)
-}
-
-// Some words, and a last number.
-fn told(words: &[u8], number: u64, out: &mut [u8]) -> Outcome
-    requires { ⌜ length (now words) ≤ 10 ⌝ }
-    ensures { λ r. ⌜ Whole (now (words .entry) ++ fieldsToEnd (number ∷ [])) (now (out .entry)) r (now (out .exit)) ⌝ }
-{
-    let mut line = [0u8; TOLD_LIMIT];
-    let tab = print::put_bytes(&mut line, 0, words);
-    let feed = print::put_number(&mut line, tab, number);
+    let mut line = [0u8; REFUSAL_LIMIT];
+    let tab = print::put_bytes(&mut line, 0, b"refused");
+    let told = print::put_number(&mut line, tab, number as u64);
+    let feed = put_beside(&mut line, told, beside);
     line[feed] = b'\n';
     whole(&line[..feed + 1], out)
+}
+
+// What is told beside a number, each value behind its TAB; a value has at most twenty digits.
+fn put_beside(out: &mut [u8], at: usize, beside: Detail) -> usize
+    requires { ⌜ at + 21 ≤ length (now out) ⌝ }
+    ensures { λ r. ⌜ Laid (fields (values (detail beside))) at (now (out .entry)) r (now (out .exit)) × (r ≤ at + 21) ⌝ }
+{
+    match beside {
+        Detail::Alone => at,
+        Detail::OnLine(line) => print::put_number(out, at, line as u64),
+    }
 }
 
 // A text as it is, where there is room for it.
@@ -88,7 +86,7 @@ fn whole(text: &[u8], out: &mut [u8]) -> Outcome
     ensures { λ r. ⌜ Whole (now (text .entry)) (now (out .entry)) r (now (out .exit)) ⌝ }
 {
     if out.len() < text.len() {
-        return Outcome::Refused(9);
+        return Outcome::Refused(9, Detail::Alone);
     }
     let n = print::put_bytes(out, 0, text);
     Outcome::Made(n)

@@ -1,54 +1,53 @@
--- The number loses nothing: two ends of one number are the same, where each has its room. A count does, as every length stays below
--- 2 ^ 63; a refusal does, being a byte; and a line does (Room). So too the number of a channel. Assumes nothing.
-use mathlib.Core.Path.{_≡_, refl, ap}
-use Prim.Native.Nat.{ℕ, _+_, _-_, _^_, _<_}
+-- The number loses nothing: an end that has room in its code is read back from it. (The end of every call has: Room.) So too the number of a
+-- channel: two channels of one number are the same. Assumes nothing.
+use mathlib.Core.Path.{_≡_, refl, sym, ap, _∙_}
+use Prim.Native.Nat.{ℕ, _+_, _-_, _^_, _<_, min}
 use native.Mathlib.Omega.{arith}
-use borrow.Author.Tests.{ltb-true, ltb-false}
+use borrow.Author.Tests.{lt-ltb, le-ltb, ltb-true, ltb-false}
 use lib.Dec.{ltb}
 use Rattle.line.specs.Limits.{slaveLimit, idCount}
 use Rattle.line.proofs.Every.{tested}
+use Rattle.job.specs.Refusals.{alone, on-line, refusal, Ending, made, refused, told}
 use Rattle.job.specs.declared.Outcome.{Outcome}
-use Rattle.job.specs.declared.Outcome.the-variants as Job
 use Rattle.channels.specs.Channel.{channelOf}
 use Rattle.channels.specs.declared.SlaveId.{SlaveId}
 use Rattle.channels.specs.declared.Channel.{Channel}
 use Rattle.channels.specs.declared.Channel.the-variants as Channels
-use Rattle.carry.specs.declared.Taken.{Taken}
-use Rattle.carry.specs.declared.Taken.the-variants.{Columns, Refused, BadLine}
-use Rattle.biss.specs.Coded.{codeOf, ending, outcomeCode, channelCode, Fits}
+use Rattle.biss.specs.Coded.{code, read, Fits, channelCode, Coded}
 
-code-lossless : (a b : Taken) → Fits a → Fits b → codeOf a ≡ codeOf b → a ≡ b
-code-lossless (Columns n) (Columns m) h k e = ap Columns e
-code-lossless (Columns n) (Refused m) h k e = absurd (omega arith)
-code-lossless (Columns n) (BadLine m) h k e = absurd (omega arith)
-code-lossless (Refused n) (Columns m) h k e = absurd (omega arith)
-code-lossless (Refused n) (Refused m) h k e = let same : n ≡ m = omega arith in ap Refused same
-code-lossless (Refused n) (BadLine m) h k e = absurd (omega arith)
-code-lossless (BadLine n) (Columns m) h k e = absurd (omega arith)
-code-lossless (BadLine n) (Refused m) h k e = absurd (omega arith)
-code-lossless (BadLine n) (BadLine m) h k e = let same : n ≡ m = omega arith in ap BadLine same
+pub read-back : (e : Ending) → Fits e → read (code e) ≡ e
+unfolding code read
+read-back (made n) h = rw (lt-ltb n (2 ^ 63) h)
+read-back (refused (refusal k alone)) h =
+    let back : 2 ^ 63 + k - 2 ^ 63 ≡ k = omega arith in
+    rw (le-ltb (2 ^ 63 + k) (2 ^ 63) (omega arith), lt-ltb (2 ^ 63 + k) (2 ^ 63 + 2 ^ 62) (omega arith), back)
+read-back (refused (refusal k (on-line l))) h =
+    let whole : min l (2 ^ 62 - 1) ≡ l = omega arith in
+    let back : 2 ^ 63 + 2 ^ 62 + l - (2 ^ 63 + 2 ^ 62) ≡ l = omega arith in
+    rw (
+      whole,
+      le-ltb (2 ^ 63 + 2 ^ 62 + l) (2 ^ 63) (omega arith),
+      le-ltb (2 ^ 63 + 2 ^ 62 + l) (2 ^ 63 + 2 ^ 62) (omega arith),
+      back,
+      h .0,
+    )
 
--- An end without a line is the end of one outcome, so an outcome loses nothing either.
-abbrev outcome-of : Taken → Outcome
-outcome-of (Columns n) = Job.Made n
-outcome-of (Refused k) = Job.Refused k
-outcome-of (BadLine l) = Job.Refused 11
+-- So two ends of one number are the same, and what a call answers is read as the end that its job promises.
+code-lossless : (a b : Ending) → Fits a → Fits b → code a ≡ code b → a ≡ b
+code-lossless a b h k e = sym (read-back a h) ∙ ap read e ∙ read-back b k
 
-same-outcome : (o : Outcome) → outcome-of (ending o) ≡ o
-same-outcome (Job.Made n) = refl
-same-outcome (Job.Refused k) = refl
-
-outcome-lossless : (a b : Outcome) → Fits (ending a) → Fits (ending b) → outcomeCode a ≡ outcomeCode b → a ≡ b
-outcome-lossless a b h k e =
-    rw (same-outcome a, same-outcome b) at (ap outcome-of (code-lossless (ending a) (ending b) h k e))
+pub read-call : {answer : ℕ} {Promised : Outcome → Type 0} (call : Coded answer Promised) → Fits (told (call .end))
+    → read answer ≡ told (call .end)
+read-call call h = ap read (call .coded) ∙ read-back (told (call .end)) h
 
 -- A channel has its room where its place is not 0, which stands for none, and its refusal as above ..
 abbrev Held : Channel → Type 0
-Held (Channels.Place place) = (0 < place .0) × Fits (Columns (place .0))
+Held (Channels.Place place) = (0 < place .0) × (place .0 < 2 ^ 63)
 Held Channels.Absent = Unit {0}
-Held (Channels.Refused k) = Fits (Refused k)
+Held (Channels.Refused k) = k < 2 ^ 62
 
 channel-lossless : (a b : Channel) → Held a → Held b → channelCode a ≡ channelCode b → a ≡ b
+unfolding channelCode code
 channel-lossless (Channels.Place p) (Channels.Place q) h k e = ap (λ (n : ℕ). Channels.Place (record { 0 = n })) e
 channel-lossless (Channels.Place p) Channels.Absent h k e = absurd (omega arith)
 channel-lossless (Channels.Place p) (Channels.Refused n) h k e = absurd (omega arith)

@@ -1,45 +1,97 @@
--- Every end of text to rows has room in its code: a lent text has fewer than 2 ^ 63 bytes and four of them to a line, so no bad line's
--- number comes to 2 ^ 62. Assumes nothing.
-use mathlib.Core.Bool.{Bool, true, false, cond, _||_}
-use mathlib.Core.List.{List}
-use Prim.Native.Nat.{ℕ, _^_, _≤_, _<_}
+-- The end of every call has room in its code: a lent buffer has fewer than 2 ^ 63 bytes, a refusal's number is a small one, and a text has
+-- four bytes to a line, so no bad line's number comes to 2 ^ 62. Assumes nothing.
+use mathlib.Core.Path.{_≡_, refl}
+use mathlib.Core.Bool.{true, false}
+use mathlib.Core.List.{List, [], _∷_}
+use mathlib.Core.Option.{none, some, orElse}
+use Prim.Native.Nat.{ℕ, zero, suc, _^_, _≤_, _<_}
 use native.Mathlib.Omega.{arith}
-use lib.Dec.{ltb, eqb}
+use borrow.Author.Tests.{ltb-false}
 use lib.ListN.{length}
 use Rattle.line.specs.Limits.{columnLimit}
-use Rattle.line.specs.Text.{badLine, cdmOf}
+use Rattle.line.specs.Building.{Request}
+use Rattle.line.specs.Entries.{listBytes}
+use Rattle.line.specs.Text.{rowsText, badLine, cdmOf, listText}
+use Rattle.line.proofs.Every.{IfAny}
 use Rattle.line.proofs.Text.{bad-line-low}
-use Rattle.carry.specs.Carry.{textRoom, textRefusal, taken, RowsTaken}
-use Rattle.carry.specs.declared.Taken.{Taken}
-use Rattle.carry.specs.declared.Taken.the-variants.{Columns, Refused, BadLine}
-use Rattle.carry.proofs.Ends.{columns-in}
+use Rattle.job.specs.Refusals.{Refusal, Rule, when, found, first, refused, ending, told, Lent, Ended}
+use Rattle.job.specs.Rows.{rowRules, wrongRow, wrongRows}
+use Rattle.job.specs.declared.Outcome.{Outcome}
+use Rattle.job.proofs.Refusals.{no, no-either}
+use Rattle.build.specs.Build as Build
+use Rattle.build.specs.Build.{Built}
+use Rattle.run.specs.Run as Run
+use Rattle.run.specs.Run.{Ran}
+use Rattle.read.specs.Read as Read
+use Rattle.read.specs.Read.{listOf, Listed}
+use Rattle.read.proofs.Filled.{length-bytes}
+use Rattle.entries.specs.Lists.{listRefusals, ListPrinted}
+use Rattle.carry.specs.Carry.{rowsRefusals, badForm, textRoom, textRefusals, RowsPrinted, RowsTaken}
 use Rattle.biss.specs.Coded.{Fits}
 
--- Text to rows refuses by 11, 5 or 9.
-refusal-low : (text : List ℕ) (cdm cds : ℕ) → textRefusal text cdm cds ≤ 11
-unfolding textRefusal textRoom
-refusal-low text cdm cds =
-    let columns = length (cdmOf text) in
-    from (ltb 0 (badLine text)) (ltb columnLimit columns) (ltb cdm columns || ltb cds columns)
-  where
-    from : (bad long full : Bool) → cond bad 11 (cond long 5 (cond full 9 0)) ≤ 11
-    from true long full = omega arith
-    from false true full = omega arith
-    from false false true = omega arith
-    from false false false = omega arith
+-- Every refusal that some rules can give has room ..
+abbrev Roomy : List Rule → Type 0
+Roomy [] = Unit {0}
+Roomy (when condition n ∷ rules) = (n < 2 ^ 62) × Roomy rules
+Roomy (found label f ∷ rules) = IfAny (λ (r : Refusal). Fits (refused r)) f × Roomy rules
 
-end-fits : (refusal line columns : ℕ) → refusal < 2 ^ 62 → line < 2 ^ 62 → columns < 2 ^ 63 → Fits (taken refusal line columns)
-unfolding taken
-end-fits refusal line columns r l n = from (eqb refusal 0) (eqb refusal 11)
-  where
-    from : (none bad : Bool) → Fits (cond none (Columns columns) (cond bad (BadLine line) (Refused refusal)))
-    from true bad = n
-    from false true = l
-    from false false = r
+-- .. and so has what they end in, if the count has.
+ending-fits : (rules : List Rule) (count : ℕ) → Roomy rules → (first rules ≡ none → count < 2 ^ 63) → Fits (ending (first rules) count)
+unfolding first orElse
+ending-fits [] count r h = h refl
+ending-fits (when true n ∷ rules) count r h = r .0
+ending-fits (when false n ∷ rules) count r h = ending-fits rules count (r .1) h
+ending-fits (found label none ∷ rules) count r h = ending-fits rules count (r .1) h
+ending-fits (found label (some q) ∷ rules) count r h = r .0
 
-pub taken-fits : (text cdm cds : List ℕ) (answer : Taken) (x y : List ℕ) → length text < 2 ^ 63 → RowsTaken text cdm cds answer x y
-    → Fits answer
-taken-fits text cdm cds answer x y h p =
-    rw (p .answers)
-    (end-fits _ _ _ (omega (arith, refusal-low text (length cdm) (length cds))) (omega (arith, bad-line-low text))
-    (omega (arith, columns-in text .0)))
+end-fits : {rules : List Rule} {count : ℕ} {buffers : List Lent} {answer : Outcome} {after : List (List ℕ)}
+    → Ended rules count buffers answer after → Roomy rules → (first rules ≡ none → count < 2 ^ 63) → Fits (told answer)
+end-fits {rules} {count} ended r h = rw (ended .answers) (ending-fits rules count r h)
+
+-- So the end of build, run and read, ..
+pub built-fits : {r : Request} {out : List ℕ} {answer : Outcome} {after : List ℕ} → Built r out answer after → length out < 2 ^ 63
+    → Fits (told answer)
+unfolding Build.refusals
+built-fits {r} {out} built h =
+    end-fits (built .ends) (omega arith)
+    (λ e. let fits : length (Build.made r) ≤ length out = ltb-false _ _ (no 9 _ e) in omega arith)
+
+pub ran-fits : {slaves : ℕ} {rights registers cdm cds : List ℕ} {answer : Outcome} {registers′ cds′ : List ℕ}
+    → Ran slaves rights registers cdm cds answer registers′ cds′ → Fits (told answer)
+unfolding Run.refusals wrongRow rowRules
+ran-fits {cdm} ran =
+    end-fits (ran .ends) (omega arith)
+    (λ e. let short : length cdm ≤ columnLimit = ltb-false _ _ (no-either _ _ (no 5 _ e) .0) in omega arith)
+
+pub listed-fits : {cdm cds : List ℕ} {k : ℕ} {out : List ℕ} {answer : Outcome} {after : List ℕ} → Listed cdm cds k out answer after
+    → length out < 2 ^ 63 → Fits (told answer)
+unfolding Read.refusals wrongRows rowRules
+listed-fits {cdm} {cds} {k} {out} listed h =
+    let list = listOf k cdm cds in
+    end-fits (listed .ends) (omega arith)
+    (λ e. let fits : length (listBytes list) ≤ length out = ltb-false _ _ (no 9 _ e) in omega (arith, length-bytes list))
+
+-- .. and of carry.
+pub rows-printed-fits : (cdm cds : List ℕ) {out : List ℕ} {answer : Outcome} {after : List ℕ} → RowsPrinted cdm cds out answer after
+    → length out < 2 ^ 63 → Fits (told answer)
+unfolding rowsRefusals wrongRows rowRules
+rows-printed-fits cdm cds {out} printed h =
+    end-fits printed (omega arith)
+    (λ e. let fits : length (rowsText cdm cds) ≤ length out = ltb-false _ _ (no 9 _ e) in omega arith)
+
+pub list-printed-fits : (list : List ℕ) {out : List ℕ} {answer : Outcome} {after : List ℕ} → ListPrinted list out answer after
+    → length out < 2 ^ 63 → Fits (told answer)
+unfolding listRefusals
+list-printed-fits list {out} printed h =
+    end-fits printed (omega arith) (λ e. let fits : length (listText list) ≤ length out = ltb-false _ _ (no 9 _ e) in omega arith)
+
+form-fits : (bad : ℕ) → bad < 2 ^ 62 → IfAny (λ (r : Refusal). Fits (refused r)) (badForm bad)
+form-fits zero h = tt
+form-fits (suc n) h = (refl, h)
+
+pub taken-fits : {text cdm cds : List ℕ} {answer : Outcome} {cdm′ cds′ : List ℕ} → RowsTaken text cdm cds answer cdm′ cds′
+    → length text < 2 ^ 63 → Fits (told answer)
+unfolding textRefusals textRoom
+taken-fits {text} taken h =
+    end-fits (taken .ends) (form-fits (badLine text) (omega (arith, bad-line-low text)), omega arith)
+    (λ e. let short : length (cdmOf text) ≤ columnLimit = ltb-false _ _ (no 5 _ e) in omega arith)

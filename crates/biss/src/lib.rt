@@ -2,17 +2,19 @@
 // or entries were made, or 2 ^ 63 and the number of the refusal; for a text's bad line, 2 ^ 63 + 2 ^ 62 and the line. Beside them the
 // channel place of a slave.
 ghost use mathlib.Core.Path.{_≡_};
+ghost use Prim.Native.Nat.{_≤_, min};
 ghost use Rattle.line.specs.Building.{Request};
 ghost use Rattle.channels.specs.Channel.{channelOf};
+ghost use Rattle.job.specs.Refusals.{refusal, refused, detail, told};
 ghost use Rattle.build.specs.Build.{Built};
 ghost use Rattle.run.specs.Run.{Ran};
 ghost use Rattle.read.specs.Read.{Listed};
 ghost use Rattle.carry.specs.Carry.{RowsPrinted, RowsTaken};
 ghost use Rattle.entries.specs.Lists.{ListPrinted};
-ghost use Rattle.biss.specs.Coded.{codeOf, outcomeCode, channelCode, Fits, Coded};
-use carry::Taken;
+ghost use Rattle.biss.specs.Coded.{code, channelCode, Coded};
 use channels::Channel;
 use channels::SlaveId;
+use job::Detail;
 use job::Outcome;
 
 // What a refusal's number stands on, 2 ^ 63: no count is as high.
@@ -21,10 +23,13 @@ const REFUSED: u64 = 9223372036854775808;
 // What the line of refusal 11 stands on, 2 ^ 63 + 2 ^ 62: no other refusal's number is as high.
 const BAD_LINE: u64 = 13835058055282163712;
 
+// The highest line that has room there, 2 ^ 62 - 1: no text is as long.
+const LAST_LINE: u64 = 4611686018427387903;
+
 // The master row of a read of `count` registers of the slave `id`, from `address` on.
 #[no_mangle]
 pub extern "C" fn biss_build_read(id: u8, address: u8, count: usize, out: &mut [u8]) -> u64
-    ensures { λ r. ⌜ Coded outcomeCode r (λ o. Built (Request.read id address count) (now (out .entry)) o (now (out .exit))) ⌝ }
+    ensures { λ r. ⌜ Coded r (λ o. Built (Request.read id address count) (now (out .entry)) o (now (out .exit))) ⌝ }
 {
     coded(build::build_read(id, address, count, out))
 }
@@ -32,7 +37,7 @@ pub extern "C" fn biss_build_read(id: u8, address: u8, count: usize, out: &mut [
 // The master row of a write of `bytes` to the registers of the slave `id`, from `address` on.
 #[no_mangle]
 pub extern "C" fn biss_build_write(id: u8, address: u8, bytes: &[u8], out: &mut [u8]) -> u64
-    ensures { λ r. ⌜ Coded outcomeCode r (λ o. Built (Request.write id address (now (bytes .entry))) (now (out .entry)) o (now (out .exit))) ⌝ }
+    ensures { λ r. ⌜ Coded r (λ o. Built (Request.write id address (now (bytes .entry))) (now (out .entry)) o (now (out .exit))) ⌝ }
 {
     coded(build::build_write(id, address, bytes, out))
 }
@@ -40,7 +45,7 @@ pub extern "C" fn biss_build_write(id: u8, address: u8, bytes: &[u8], out: &mut 
 // The master row of a command.
 #[no_mangle]
 pub extern "C" fn biss_build_command(ids: u8, cmd: u8, out: &mut [u8]) -> u64
-    ensures { λ r. ⌜ Coded outcomeCode r (λ o. Built (Request.command ids cmd) (now (out .entry)) o (now (out .exit))) ⌝ }
+    ensures { λ r. ⌜ Coded r (λ o. Built (Request.command ids cmd) (now (out .entry)) o (now (out .exit))) ⌝ }
 {
     coded(build::build_command(ids, cmd, out))
 }
@@ -54,7 +59,7 @@ pub extern "C" fn biss_run(
     cdm: &[u8],
     cds: &mut [u8],
 ) -> u64
-    ensures { λ r. ⌜ Coded outcomeCode r (λ o. Ran slaves (now (rights .entry)) (now (registers .entry)) (now (cdm .entry)) (now (cds .entry)) o (now (registers .exit)) (now (cds .exit))) ⌝ }
+    ensures { λ r. ⌜ Coded r (λ o. Ran slaves (now (rights .entry)) (now (registers .entry)) (now (cdm .entry)) (now (cds .entry)) o (now (registers .exit)) (now (cds .exit))) ⌝ }
 {
     coded(run::run(slaves, rights, registers, cdm, cds))
 }
@@ -62,7 +67,7 @@ pub extern "C" fn biss_run(
 // The entries that two recorded rows show, from an opening column on.
 #[no_mangle]
 pub extern "C" fn biss_read(cdm: &[u8], cds: &[u8], opening: usize, out: &mut [u8]) -> u64
-    ensures { λ r. ⌜ Coded outcomeCode r (λ o. Listed (now (cdm .entry)) (now (cds .entry)) opening (now (out .entry)) o (now (out .exit))) ⌝ }
+    ensures { λ r. ⌜ Coded r (λ o. Listed (now (cdm .entry)) (now (cds .entry)) opening (now (out .entry)) o (now (out .exit))) ⌝ }
 {
     coded(read::read(cdm, cds, opening, out))
 }
@@ -70,7 +75,7 @@ pub extern "C" fn biss_read(cdm: &[u8], cds: &[u8], opening: usize, out: &mut [u
 // Two rows as text.
 #[no_mangle]
 pub extern "C" fn biss_rows_to_text(cdm: &[u8], cds: &[u8], out: &mut [u8]) -> u64
-    ensures { λ r. ⌜ Coded outcomeCode r (λ o. RowsPrinted (now (cdm .entry)) (now (cds .entry)) (now (out .entry)) o (now (out .exit))) ⌝ }
+    ensures { λ r. ⌜ Coded r (λ o. RowsPrinted (now (cdm .entry)) (now (cds .entry)) (now (out .entry)) o (now (out .exit))) ⌝ }
 {
     coded(carry::rows_to_text(cdm, cds, out))
 }
@@ -78,15 +83,15 @@ pub extern "C" fn biss_rows_to_text(cdm: &[u8], cds: &[u8], out: &mut [u8]) -> u
 // The two rows of a text.
 #[no_mangle]
 pub extern "C" fn biss_text_to_rows(text: &[u8], cdm: &mut [u8], cds: &mut [u8]) -> u64
-    ensures { λ r. ⌜ Coded codeOf r (λ t. RowsTaken (now (text .entry)) (now (cdm .entry)) (now (cds .entry)) t (now (cdm .exit)) (now (cds .exit))) ⌝ }
+    ensures { λ r. ⌜ Coded r (λ o. RowsTaken (now (text .entry)) (now (cdm .entry)) (now (cds .entry)) o (now (cdm .exit)) (now (cds .exit))) ⌝ }
 {
-    coded_taken(carry::text_to_rows(text, cdm, cds))
+    coded(carry::text_to_rows(text, cdm, cds))
 }
 
 // A list of entries as text.
 #[no_mangle]
 pub extern "C" fn biss_list_to_text(list: &[u8], out: &mut [u8]) -> u64
-    ensures { λ r. ⌜ Coded outcomeCode r (λ o. ListPrinted (now (list .entry)) (now (out .entry)) o (now (out .exit))) ⌝ }
+    ensures { λ r. ⌜ Coded r (λ o. ListPrinted (now (list .entry)) (now (out .entry)) o (now (out .exit))) ⌝ }
 {
     coded(entries::list_to_text(list, out))
 }
@@ -100,23 +105,27 @@ pub extern "C" fn biss_channel_of(id: u8, slaves: usize) -> u64
 }
 
 fn coded(outcome: Outcome) -> u64
-    ensures { λ r. ⌜ r ≡ outcomeCode outcome ⌝ }
+    ensures { λ r. ⌜ r ≡ code (told outcome) ⌝ }
 {
     match outcome {
         Outcome::Made(n) => n as u64,
-        Outcome::Refused(k) => REFUSED + k as u64,
+        Outcome::Refused(number, beside) => coded_refusal(number, beside),
     }
 }
 
-fn coded_taken(taken: Taken) -> u64
-    requires { ⌜ Fits taken ⌝ }
-    ensures { λ r. ⌜ r ≡ codeOf taken ⌝ }
+fn coded_refusal(number: u8, beside: Detail) -> u64
+    ensures { λ r. ⌜ r ≡ code (refused (refusal number (detail beside))) ⌝ }
 {
-    match taken {
-        Taken::Columns(n) => n as u64,
-        Taken::Refused(k) => REFUSED + k as u64,
-        Taken::BadLine(l) => BAD_LINE + l as u64,
+    match beside {
+        Detail::Alone => REFUSED + number as u64,
+        Detail::OnLine(line) => BAD_LINE + least(line as u64, LAST_LINE),
     }
+}
+
+fn least(n: u64, limit: u64) -> u64
+    ensures { λ r. ⌜ (r ≡ min n limit) × (r ≤ limit) ⌝ }
+{
+    if n < limit { n } else { limit }
 }
 
 fn coded_channel(channel: Channel) -> u64

@@ -1,11 +1,11 @@
 -- What a request that refusal 10 lets through keeps to. Assumes nothing.
 use mathlib.Core.Path.{_≡_}
 use mathlib.Core.Bool.{Bool, false, _||_}
-use Prim.Native.Nat.{ℕ, _+_, _-_, _≤_, _<_}
+use Prim.Native.Nat.{ℕ, _+_, _-_, _≤_}
 use borrow.Author.Tests.{ltb-false, eqb-false}
 use lib.Dec.{ltb, eqb}
 use Rattle.line.specs.Limits.{idCount, registerCount, byteLimit}
-use Rattle.job.proofs.Ends.{no-either}
+use Rattle.job.proofs.Refusals.{no-either}
 use Rattle.build.specs.Build.{outsideAccess}
 
 pub record Inside (id address count : ℕ) : Type 0 where

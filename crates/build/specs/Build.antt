@@ -1,14 +1,13 @@
 -- The job build: when it refuses, and what it makes. The rows themselves are line's (specs/Building).
-use mathlib.Core.Path.{_≡_}
-use mathlib.Core.Bool.{Bool, cond, _||_}
-use mathlib.Core.List.{List, map}
-use Prim.Native.Nat.{ℕ, _+_, _-_, _*_}
+use mathlib.Core.Bool.{Bool, _||_}
+use mathlib.Core.List.{List, [], _∷_, map}
+use Prim.Native.Nat.{ℕ, _+_, _-_}
 use lib.Dec.{ltb, eqb}
 use lib.ListN.{length}
 use Rattle.line.specs.Limits.{idCount, registerCount, byteLimit}
 use Rattle.line.specs.Bits.{num}
 use Rattle.line.specs.Building.{Request, read, write, command, rowFor}
-use Rattle.job.specs.Outcome.{outcome, leaves}
+use Rattle.job.specs.Refusals.{Rule, when, lent, Ended}
 use Rattle.job.specs.declared.Outcome.{Outcome}
 
 -- Refusal 10: "id over 7, address over 127, .. count 0 or over 64, or address + count over 128".
@@ -28,10 +27,9 @@ unfoldable pub made : Request → List ℕ
 made r = map num (rowFor r)
 
 -- "Build: 10, 9." Refusal 9: "the result needs more room than was lent, and only then".
-unfoldable pub refusal : Request → (room : ℕ) → ℕ
-refusal r room = cond (outside r) 10 (cond (ltb room (length (made r))) 9 0)
+unfoldable pub refusals : Request → (room : ℕ) → List Rule
+refusals r room = when (outside r) 10 ∷ when (ltb room (length (made r))) 9 ∷ []
 
--- What build answers to a request, and what it leaves in the lent row.
-pub record Built (r : Request) (lent : List ℕ) (answer : Outcome) (after : List ℕ) : Type 0 where
-  pub answers : answer ≡ outcome (refusal r (length lent)) (length (made r))
-  pub leaves-row : after ≡ leaves (refusal r (length lent)) (made r) lent
+-- What build answers to a request, in columns, and what it leaves in the lent row.
+pub record Built (r : Request) (out : List ℕ) (answer : Outcome) (after : List ℕ) : Type 0 where
+  pub ends : Ended (refusals r (length out)) (length (made r)) (lent (made r) out ∷ []) answer (after ∷ [])

@@ -9,8 +9,10 @@ ghost use Rattle.line.specs.Bits.{num, bits};
 ghost use Rattle.line.specs.Division.{headerBits, dataBits, check, word};
 ghost use Rattle.line.specs.Building.{Request, readBytes, writeBytes};
 ghost use Rattle.line.specs.Header.{accessWord};
+ghost use Rattle.job.specs.Refusals.{first, given};
 ghost use Rattle.build.specs.Build.{outsideAccess, Built};
-ghost use Rattle.build.specs.Parts.{accessRefusal, lead, Begun};
+ghost use Rattle.build.specs.Parts.{accessRefusals, lead, Begun};
+use job::Detail;
 use job::Outcome;
 
 // The limits of refusal 10 (01, Numbers of refusal).
@@ -47,7 +49,7 @@ pub fn build_read(id: u8, address: u8, count: usize, out: &mut [u8]) -> Outcome
 {
     let why = begin(out, id, address, count, READS);
     if why != 0 {
-        return Outcome::Refused(why);
+        return Outcome::Refused(why, Detail::Alone);
     }
     let n = put_reads(out, ACCESS, count);
     Outcome::Made(n)
@@ -59,7 +61,7 @@ pub fn build_write(id: u8, address: u8, bytes: &[u8], out: &mut [u8]) -> Outcome
 {
     let why = begin(out, id, address, bytes.len(), WRITES);
     if why != 0 {
-        return Outcome::Refused(why);
+        return Outcome::Refused(why, Detail::Alone);
     }
     let n = put_writes(out, ACCESS, bytes);
     Outcome::Made(n)
@@ -70,10 +72,10 @@ pub fn build_command(ids: u8, cmd: u8, out: &mut [u8]) -> Outcome
     ensures { λ r. ⌜ Built (Request.command ids cmd) (now (out .entry)) r (now (out .exit)) ⌝ }
 {
     if LAST_COMMAND < cmd {
-        return Outcome::Refused(10);
+        return Outcome::Refused(10, Detail::Alone);
     }
     if out.len() < COMMAND {
-        return Outcome::Refused(9);
+        return Outcome::Refused(9, Detail::Alone);
     }
     let start = opening(ids as u16 * 4 + cmd as u16);
     let n = put_bits(out, 0, COMMAND, start);
@@ -94,7 +96,7 @@ fn begin(out: &mut [u8], id: u8, address: u8, count: usize, way: u64) -> u8
 
 // 10 or 9, or 0 where a register access of so many bytes is refused by neither.
 fn refusal(id: u8, address: u8, count: usize, room: usize) -> u8
-    ensures { λ r. ⌜ r ≡ accessRefusal id address count room ⌝ }
+    ensures { λ r. ⌜ given r ≡ first (accessRefusals id address count room) ⌝ }
 {
     if outside(id, address, count) {
         10

@@ -1,59 +1,45 @@
 -- How carry's calls end: what lets rows and texts through, and the ends of text to rows. Assumes nothing.
-use mathlib.Core.Path.{_≡_, sym, ap, _∙_}
-use mathlib.Core.Bool.{Bool, true, false, cond, _||_}
+use mathlib.Core.Path.{_≡_, refl, sym, ap, _∙_}
 use mathlib.Core.List.{List}
-use Prim.Native.Nat.{ℕ, _+_, _-_, _*_, _/_, _≤_, _<_}
-use native.Mathlib.Omega.{arith}
-use borrow.Author.Tests.{lt-ltb, le-ltb, ltb-false, eqb-true, ne-eqb}
-use lib.Dec.{ltb, eqb}
+use mathlib.Core.Option.{none, some, orElse, Option·none-ne-some}
+use Prim.Native.Nat.{ℕ, zero, suc, _+_, _-_, _*_, _/_, _≤_, _<_}
+use borrow.Author.Tests.{lt-ltb, le-ltb, ltb-false}
 use lib.ListN.{length, length-drop, drop}
 use lib.Seq.{sets}
 use Rattle.line.specs.Limits.{columnLimit}
 use Rattle.line.specs.Text.{badLine, cdmOf, cdsOf}
-use Rattle.line.proofs.Every.{tested}
+use Rattle.job.specs.Refusals.{on-line, refusal, first, given}
 use Rattle.job.specs.Rows.{wrongRows}
-use Rattle.job.proofs.Ends.{not-first, then-rest, no-either, refused-leaves, made-leaves}
-use Rattle.job.proofs.Rows.{first-counts, right-rows}
-use Rattle.carry.specs.Carry.{rowsRefusal, textRoom, textRefusal, taken, RowsTaken}
-use Rattle.carry.specs.declared.Taken.{Taken}
-use Rattle.carry.specs.declared.Taken.the-variants as Answer
+use Rattle.job.specs.declared.Outcome.the-variants.{Made, Refused}
+use Rattle.job.specs.declared.Detail.the-variants.{Alone, OnLine}
+use Rattle.job.proofs.Refusals.{no, no-either, gave-none, stays, passes, laid, ended-refused, ended-given, ended-made}
+use Rattle.job.proofs.Rows.{right-rows}
+use Rattle.carry.specs.Carry.{rowsRefusals, badForm, textRoom, textRefusals, RowsTaken}
 use Rattle.carry.proofs.Columns.{text-length, row-length}
 
 -- The refusals of rows to text in the words of its branches.
 module _ (cdm cds : List ℕ) where
-  pub rows-wrong : (why room : ℕ) → why ≡ wrongRows cdm cds → (why ≡ 0 → ⊥) → why ≡ rowsRefusal cdm cds room
-  unfolding rowsRefusal
-  rows-wrong why room e h = rw (← e) (first-counts why _ h)
+  pub rows-wrong : (why room : ℕ) → given why ≡ first (wrongRows cdm cds) → (why ≡ 0 → ⊥) → given why ≡ first (rowsRefusals cdm cds room)
+  unfolding rowsRefusals
+  rows-wrong why room e h = stays (wrongRows cdm cds) _ why e h
 
-  module _ (room : ℕ) (e : wrongRows cdm cds ≡ 0) where
-    pub rows-nine : room < 8 + 4 * length cdm → 9 ≡ rowsRefusal cdm cds room
-    unfolding rowsRefusal
-    rows-nine h = rw (e, text-length cdm cds (right-rows cdm cds e .same), lt-ltb _ _ h)
+  module _ (room : ℕ) (e : first (wrongRows cdm cds) ≡ none) where
+    pub rows-nine : room < 8 + 4 * length cdm → given 9 ≡ first (rowsRefusals cdm cds room)
+    unfolding rowsRefusals first
+    rows-nine h = sym (passes (wrongRows cdm cds) _ e ∙ rw (text-length cdm cds (right-rows cdm cds e .same), lt-ltb _ _ h))
 
-    pub rows-none : 8 + 4 * length cdm ≤ room → rowsRefusal cdm cds room ≡ 0
-    unfolding rowsRefusal
-    rows-none h = rw (e, text-length cdm cds (right-rows cdm cds e .same), le-ltb _ _ h)
+    pub rows-none : 8 + 4 * length cdm ≤ room → first (rowsRefusals cdm cds room) ≡ none
+    unfolding rowsRefusals first
+    rows-none h = passes (wrongRows cdm cds) _ e ∙ rw (text-length cdm cds (right-rows cdm cds e .same), le-ltb _ _ h)
 
--- So many columns that are refused by neither 5 nor 9, and back; 11 is neither of them.
-pub room-enough : (n cdm cds : ℕ) → textRoom n cdm cds ≡ 0 → (n ≤ cdm) × (n ≤ cds)
+-- So many columns that are refused by neither 5 nor 9, and back.
+pub room-enough : (n cdm cds : ℕ) → first (textRoom n cdm cds) ≡ none → (n ≤ cdm) × (n ≤ cds)
 unfolding textRoom
-room-enough n cdm cds e =
-    let nine = ltb cdm n || ltb cds n in
-    let rows = no-either _ _ (not-first nine 8 0 (then-rest (ltb columnLimit n) 4 (cond nine 9 0) e)) in
-    (ltb-false _ _ (rows .0), ltb-false _ _ (rows .1))
+room-enough n cdm cds e = let rows = no-either _ _ (no 9 _ e) in (ltb-false _ _ (rows .0), ltb-false _ _ (rows .1))
 
-pub room-given : (n cdm cds : ℕ) → n ≤ columnLimit → n ≤ cdm → n ≤ cds → textRoom n cdm cds ≡ 0
-unfolding textRoom
+pub room-given : (n cdm cds : ℕ) → n ≤ columnLimit → n ≤ cdm → n ≤ cds → first (textRoom n cdm cds) ≡ none
+unfolding textRoom first
 room-given n cdm cds short fits fits′ = rw (le-ltb columnLimit n short, le-ltb cdm n fits, le-ltb cds n fits′)
-
-not-eleven : (n cdm cds : ℕ) → textRoom n cdm cds ≡ 11 → ⊥
-unfolding textRoom
-not-eleven n cdm cds e = from (ltb columnLimit n) (ltb cdm n || ltb cds n) e
-  where
-    from : (a b : Bool) → _≡_ {A = ℕ} (cond a 5 (cond b 9 0)) 11 → ⊥
-    from true b e = omega arith
-    from false true e = omega arith
-    from false false e = omega arith
 
 -- The columns of a text, by its length, in either row.
 pub columns-in : (text : List ℕ) → (length (cdmOf text) ≡ (length text - 8) / 4) × (length (cdsOf text) ≡ (length text - 8) / 4)
@@ -63,56 +49,36 @@ columns-in text = (
   row-length 2 (drop 8 text) ∙ ap (λ (n : ℕ). n / 4) (length-drop 8 text),
 )
 
+-- No bad line is told exactly where there is none; else it is told with its number.
+pub form-good : (bad : ℕ) → badForm bad ≡ none → bad ≡ 0
+form-good zero e = refl
+form-good (suc n) e = absurd (Option·none-ne-some _ (sym e))
+
+pub form-bad : (bad : ℕ) → (bad ≡ 0 → ⊥) → badForm bad ≡ some (refusal 11 (on-line bad))
+form-bad zero h = absurd (h refl)
+form-bad (suc n) h = refl
+
 -- The ends of text to rows: 11 with its line, 5 or 9, and columns.
 module _ (text cdm cds : List ℕ) where
-  abbrev refusal : ℕ
-  refusal = textRefusal text (length cdm) (length cds)
-
-  refused-rows : (why : ℕ) {answer : Taken} → refusal ≡ why → (why ≡ 0 → ⊥) → answer ≡ taken why (badLine text) (length (cdmOf text))
-      → RowsTaken text cdm cds answer cdm cds
-  refused-rows why e h a =
-      record {
-        answers = rw e a;
-        leaves-cdm = rw e (refused-leaves why (cdmOf text) cdm h);
-        leaves-cds = rw e (refused-leaves why (cdsOf text) cds h);
-      }
-
-  pub taken-bad : (bad : ℕ) → bad ≡ badLine text → (bad ≡ 0 → ⊥) → RowsTaken text cdm cds (Answer.BadLine bad) cdm cds
-  unfolding taken textRefusal
+  pub taken-bad : (bad : ℕ) → bad ≡ badLine text → (bad ≡ 0 → ⊥) → RowsTaken text cdm cds (Refused 11 (OnLine bad)) cdm cds
+  unfolding textRefusals first orElse
   taken-bad bad e h =
-      refused-rows 11 (rw (← e, lt-ltb 0 bad (omega arith))) (λ q. omega arith) (ap Answer.BadLine e)
+      record { ends = ended-refused _ _ _ (Refused 11 (OnLine bad)) (refusal 11 (on-line bad)) refl (rw (← e, form-bad bad h)) }
 
-  module _ (good : badLine text ≡ 0) (why : ℕ) (room : why ≡ textRoom ((length text - 8) / 4) (length cdm) (length cds)) where
-    gives-room : refusal ≡ why
-    unfolding textRefusal
-    gives-room = rw (good, columns-in text .0) (sym room)
+  module _ (good : badLine text ≡ 0) (why : ℕ) (room : given why ≡ first (textRoom ((length text - 8) / 4) (length cdm) (length cds))) where
+    gives-room : given why ≡ first (textRefusals text (length cdm) (length cds))
+    unfolding textRefusals first orElse
+    gives-room = room ∙ sym (rw (good, columns-in text .0))
 
-    pub taken-refused : (why ≡ 0 → ⊥) → RowsTaken text cdm cds (Answer.Refused why) cdm cds
-    unfolding taken
-    taken-refused h =
-        refused-rows why gives-room h
-        (rw (ne-eqb why 0 h, ne-eqb why 11 (λ q. not-eleven _ _ _ (sym room ∙ q))))
+    pub taken-refused : (why ≡ 0 → ⊥) → RowsTaken text cdm cds (Refused why Alone) cdm cds
+    taken-refused h = record { ends = ended-given _ _ _ why gives-room h }
 
     pub taken-columns : why ≡ 0 → (cdm-after cds-after : List ℕ)
         → (cdm-after ≡ sets cdm 0 (cdmOf text)) × (cds-after ≡ sets cds 0 (cdsOf text))
-        → RowsTaken text cdm cds (Answer.Columns ((length text - 8) / 4)) cdm-after cds-after
-    unfolding taken
+        → RowsTaken text cdm cds (Made ((length text - 8) / 4)) cdm-after cds-after
     taken-columns e cdm-after cds-after put =
-        let none : refusal ≡ 0 = gives-room ∙ e in
         let long = columns-in text in
-        let rows = room-enough _ _ _ (sym room ∙ e) in
-        record {
-          answers = rw (none, long .0);
-          leaves-cdm = put .0 ∙ made-leaves refusal (cdmOf text) cdm none (rw (long .0) (rows .0));
-          leaves-cds = put .1 ∙ made-leaves refusal (cdsOf text) cds none (rw (long .1) (rows .1));
-        }
-
--- And back: where columns were taken nothing was refused, and the text has as many.
-pub was-taken : (why line columns : ℕ) {n : ℕ} → Answer.Columns n ≡ taken why line columns → (why ≡ 0) × (n ≡ columns)
-unfolding taken
-was-taken why line columns {n} e =
-    tested (eqb why 0) (λ q. let same = rw q at e in (eqb-true why 0 q, cc)) (λ q. absurd (refused (eqb why 11) (rw q at e)))
-  where
-    refused : (eleven : Bool) → Answer.Columns n ≡ cond eleven (Answer.BadLine line) (Answer.Refused why) → ⊥
-    refused true e = let z : _≡_ {A = ℕ} 0 1 = cc in omega arith
-    refused false e = let z : _≡_ {A = ℕ} 0 1 = cc in omega arith
+        let rows = room-enough _ _ _ (gave-none why room e) in
+        let in-cdm = put .0 ∙ laid (cdmOf text) cdm (rw (long .0) (rows .0)) in
+        let in-cds = put .1 ∙ laid (cdsOf text) cds (rw (long .1) (rows .1)) in
+        record { ends = ended-made _ _ _ _ _ (gave-none why gives-room e) (sym (long .0)) (cc (in-cdm, in-cds)) }

@@ -3,11 +3,10 @@
 use mathlib.Core.Path.{_≡_}
 use mathlib.Core.List.{List}
 use Prim.Native.Nat.{ℕ}
-use Rattle.line.proofs.Unique.{one-answer}
+use Rattle.job.specs.declared.Outcome.{Outcome}
+use Rattle.job.proofs.Refusals.{ended-unique}
 use Rattle.carry.specs.Carry.{RowsTaken}
-use Rattle.carry.specs.declared.Taken.{Taken}
 
-taken-unique : (text cdm cds : List ℕ) (a b : Taken) (x y v w : List ℕ) → RowsTaken text cdm cds a x v → RowsTaken text cdm cds b y w
+taken-unique : {text cdm cds : List ℕ} {a b : Outcome} {x y v w : List ℕ} → RowsTaken text cdm cds a x v → RowsTaken text cdm cds b y w
     → (a ≡ b) × (x ≡ y) × (v ≡ w)
-taken-unique text cdm cds a b x y v w p q =
-    (one-answer (p .answers) (q .answers), one-answer (p .leaves-cdm) (q .leaves-cdm), one-answer (p .leaves-cds) (q .leaves-cds))
+taken-unique p q = let same = ended-unique (p .ends) (q .ends) in (same .0, cc, cc)

@@ -6,9 +6,11 @@ ghost use Prim.Native.Nat.{_+_, _*_, _≤_};
 ghost use lib.ListN.{length};
 ghost use lib.Seq.{sets};
 ghost use Rattle.line.specs.Text.{columnLine, columnLines, cdmOf, cdsOf};
-ghost use Rattle.job.specs.Outcome.{areBits};
+ghost use Rattle.job.specs.Bytes.{areBits};
+ghost use Rattle.job.specs.Refusals.{first, given};
 ghost use Rattle.print.specs.Laid.{Laid};
 ghost use Rattle.carry.specs.Carry.{textRoom, RowsPrinted, RowsTaken};
+use job::Detail;
 use job::Outcome;
 
 // Columns: "A row has 0 to 4,096 columns."
@@ -19,26 +21,16 @@ const HEADER: usize = 8;
 
 const LINE: usize = 4;
 
-// What text to rows answers.
-pub enum Taken {
-    // So many columns were taken.
-    Columns(usize),
-    // A number of paper 01's table; no lent byte was changed.
-    Refused(u8),
-    // Number 11 with the first bad line, counted from 1.
-    BadLine(usize),
-}
-
 // Rows to text: refusals 5, 6, 7, 9.
 pub fn rows_to_text(cdm: &[u8], cds: &[u8], out: &mut [u8]) -> Outcome
     ensures { λ r. ⌜ RowsPrinted (now (cdm .entry)) (now (cds .entry)) (now (out .entry)) r (now (out .exit)) ⌝ }
 {
     let why = job::wrong_rows(cdm, cds);
     if why != 0 {
-        return Outcome::Refused(why);
+        return Outcome::Refused(why, Detail::Alone);
     }
     if out.len() < HEADER + LINE * cdm.len() {
-        return Outcome::Refused(9);
+        return Outcome::Refused(9, Detail::Alone);
     }
     let p = print::put_bytes(out, 0, b"cdm\tcds\n");
     let n = put_columns(out, p, cdm, cds);
@@ -71,25 +63,25 @@ fn put_column(out: &mut [u8], at: usize, cdm: u8, cds: u8) -> usize
 }
 
 // Text to rows: refusals 11, 5, 9.
-pub fn text_to_rows(text: &[u8], cdm: &mut [u8], cds: &mut [u8]) -> Taken
+pub fn text_to_rows(text: &[u8], cdm: &mut [u8], cds: &mut [u8]) -> Outcome
     ensures { λ r. ⌜ RowsTaken (now (text .entry)) (now (cdm .entry)) (now (cds .entry)) r (now (cdm .exit)) (now (cds .exit)) ⌝ }
 {
     let bad = cursor::bad_line(text);
     if bad != 0 {
-        return Taken::BadLine(bad);
+        return Outcome::Refused(11, Detail::OnLine(bad));
     }
     let columns = (text.len() - HEADER) / LINE;
     let why = text_room(columns, cdm.len(), cds.len());
     if why != 0 {
-        return Taken::Refused(why);
+        return Outcome::Refused(why, Detail::Alone);
     }
     put_rows(text, cdm, cds, columns);
-    Taken::Columns(columns)
+    Outcome::Made(columns)
 }
 
 // 5 or 9, or 0 where so many columns are refused by neither.
 fn text_room(columns: usize, cdm: usize, cds: usize) -> u8
-    ensures { λ r. ⌜ r ≡ textRoom columns cdm cds ⌝ }
+    ensures { λ r. ⌜ given r ≡ first (textRoom columns cdm cds) ⌝ }
 {
     if COLUMN_LIMIT < columns {
         5

@@ -3,6 +3,7 @@
 use mathlib.Core.Path.{_≡_, refl, sym, ap, _∙_}
 use mathlib.Core.Bool.{true}
 use mathlib.Core.List.{List, map}
+use mathlib.Core.Option.{none}
 use Prim.Native.Nat.{ℕ, _*_, _≤_}
 use native.Mathlib.Omega.{arith}
 use lib.ListN.{length, length-map}
@@ -15,17 +16,18 @@ use Rattle.line.specs.Replay.{replay, Shows}
 use Rattle.line.proofs.Memories.{Bytes}
 use Rattle.line.proofs.Rows.{answers-length}
 use Rattle.line.proofs.Demands as line
+use Rattle.job.specs.Refusals.{first, lent, left}
 use Rattle.job.specs.Rows.{wrongRows}
 use Rattle.job.specs.declared.Outcome.the-variants.{Made}
 use Rattle.job.proofs.Bits.{num-bits}
-use Rattle.job.proofs.Ends.{was-made}
+use Rattle.job.proofs.Refusals.{was-made, laid-whole}
 use Rattle.job.proofs.Rows.{not-wrong}
-use Rattle.run.specs.Run.{memoriesOf, registersOf, refusal, Ran}
+use Rattle.run.specs.Run.{memoriesOf, registersOf, refusals, Ran}
 use Rattle.run.proofs.Rows.{row-num}
-use Rattle.run.proofs.Ends.{made-whole, held, short-row, same-rows, master-bits}
+use Rattle.run.proofs.Ends.{held, short-row, same-rows, master-bits}
 use Rattle.read.specs.Read as Read
 use Rattle.read.specs.Read.{listOf}
-use Rattle.read.specs.Parts.{rowsRefusal}
+use Rattle.read.specs.Parts.{rowsRefusals}
 use Rattle.read.proofs.Filled.{length-bytes}
 use Rattle.read.proofs.Left.{length-list}
 use Rattle.read.proofs.Ends.{rows-good, not-refused}
@@ -38,8 +40,8 @@ module _ {slaves c : ℕ} {rights registers cdm cds registers′ cds′ : List �
   abbrev chain : List Memory
   chain = memoriesOf slaves registers rights
 
-  none : refusal slaves (length registers) rights cdm (length cds) ≡ 0
-  none = was-made _ _ (ran .answers) .0
+  through : first (refusals slaves (length registers) rights cdm (length cds)) ≡ none
+  through = was-made (ran .ends) .0
 
   answers-long : length (map num (answersFrom chain (rowOf cdm))) ≡ length cdm
   unfolding answersFrom rowOf
@@ -49,8 +51,8 @@ module _ {slaves c : ℕ} {rights registers cdm cds registers′ cds′ : List �
   -- The lent answer row holds the chain's answers, and nothing else.
   pub row-bytes : cds′ ≡ map num (answersFrom chain (rowOf cdm))
   row-bytes =
-      ran .leaves-row
-      ∙ sym (made-whole _ _ cds none (answers-long ∙ sym (same-rows slaves registers rights cdm cds none)))
+      let left-row : cds′ ≡ left none (lent (map num (answersFrom chain (rowOf cdm))) cds) = cc (was-made (ran .ends) .2) in
+      left-row ∙ sym (laid-whole _ cds (answers-long ∙ sym (same-rows slaves registers rights cdm cds through)))
 
   row-answers : rowOf cds′ ≡ answersFrom chain (rowOf cdm)
   row-answers = ap rowOf row-bytes ∙ row-num (answersFrom chain (rowOf cdm))
@@ -59,20 +61,20 @@ module _ {slaves c : ℕ} {rights registers cdm cds registers′ cds′ : List �
   row-long = ap length row-bytes ∙ answers-long
 
   -- Read refuses neither row by 5 to 8, and six bytes a column are room enough.
-  rows-right : (k : ℕ) → k ≤ length cdm → rowsRefusal cdm cds′ k ≡ 0
+  rows-right : (k : ℕ) → k ≤ length cdm → first (rowsRefusals cdm cds′ k) ≡ none
   rows-right k h =
-      let right : wrongRows cdm cds′ ≡ 0 = not-wrong cdm cds′ (record {
-        short = short-row slaves registers rights cdm cds none;
+      let right : first (wrongRows cdm cds′) ≡ none = not-wrong cdm cds′ (record {
+        short = short-row slaves registers rights cdm cds through;
         same = sym row-long;
-        cdm-bits = master-bits slaves registers rights cdm cds none;
+        cdm-bits = master-bits slaves registers rights cdm cds through;
         cds-bits = rw row-bytes (num-bits (answersFrom chain (rowOf cdm)));
       }) in
-      sym (rows-good cdm cds′ k (sym right) refl h)
+      sym (rows-good cdm cds′ k {why = 0} (sym right) refl h)
 
-  pub rows-read : (k : ℕ) (lent : List ℕ) → k ≤ length cdm → 6 * length cdm ≤ length lent
-      → Read.refusal cdm cds′ k (length lent) ≡ 0
-  rows-read k lent h room =
-      not-refused cdm cds′ k lent (rows-right k h) (omega (arith, length-bytes (listOf k cdm cds′), length-list k cdm cds′))
+  pub rows-read : (k : ℕ) (out : List ℕ) → k ≤ length cdm → 6 * length cdm ≤ length out
+      → first (Read.refusals cdm cds′ k (length out)) ≡ none
+  rows-read k out h room =
+      not-refused cdm cds′ k out (rows-right k h) (omega (arith, length-bytes (listOf k cdm cds′), length-list k cdm cds′))
 
   -- The list of the two rows is that of the master row and the chain's answers.
   pub row-list : listOf 0 cdm cds′ ≡ listFrom 0 (columns (rowOf cdm) (answersFrom chain (rowOf cdm)))
@@ -98,7 +100,9 @@ module _ {slaves c : ℕ} {rights registers cdm cds registers′ cds′ : List �
     pub row-replay : registersOf (replay chain (listOf 0 cdm cds′)) ≡ registers′
     row-replay =
         let as-lent : registersOf chain ≡ registers
-        = registers-back slaves registers rights (held slaves registers rights cdm cds none .all-registers) in
+        = registers-back slaves registers rights (held slaves registers rights cdm cds through .all-registers) in
         let long : length (registersOf (memoriesAfter chain (rowOf cdm))) ≡ length registers
         = rw (← row-final) (replay-length chain (listOf 0 cdm cds′) ∙ ap length as-lent) in
-        ap registersOf row-final ∙ made-whole _ _ registers none long ∙ sym (ran .leaves-registers)
+        let left-registers : registers′ ≡ left none (lent (registersOf (memoriesAfter chain (rowOf cdm))) registers)
+        = cc (was-made (ran .ends) .2) in
+        ap registersOf row-final ∙ laid-whole _ registers long ∙ sym left-registers

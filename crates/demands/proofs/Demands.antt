@@ -20,15 +20,13 @@ use Rattle.line.proofs.Demands as line
 use Rattle.line.proofs.Text.{back-and-there}
 use Rattle.job.specs.declared.Outcome.{Outcome}
 use Rattle.job.specs.declared.Outcome.the-variants.{Made}
-use Rattle.job.proofs.Ends.{made-answer}
+use Rattle.job.proofs.Refusals.{ended-none}
 use Rattle.run.specs.Run.{memoriesOf, registersOf, Ran}
 use Rattle.read.specs.Read.{listOf, Listed}
 use Rattle.print.proofs.Ends.{was-printed}
 use Rattle.entries.specs.Lists.{ListPrinted}
 use Rattle.entries.proofs.Lists.{list-none}
 use Rattle.carry.specs.Carry.{RowsPrinted, RowsTaken}
-use Rattle.carry.specs.declared.Taken.{Taken}
-use Rattle.carry.specs.declared.Taken.the-variants.{Columns}
 use Rattle.demands.specs.Lent.{areBytes, listIn, entriesIn, kindAt, isFault, DifferUnread}
 use Rattle.demands.proofs.Chains.{all-alike}
 use Rattle.demands.proofs.Lists.{list-count, list-bytes, list-entries, list-empty, list-late, list-never, no-fault-at}
@@ -63,7 +61,7 @@ pub run-is-read : {slaves c k : ℕ} {rights registers cdm cds registers′ cds�
     → Ran slaves rights registers cdm cds (Made c) registers′ cds′ → Listed cdm cds′ k lent answer after
     → k ≤ length cdm → 6 * length cdm ≤ length lent → answer ≡ Made (length (listOf k cdm cds′))
 run-is-read {k} {lent} ran listed opening room =
-    listed .answers ∙ sym (made-answer _ _ (rows-read ran k lent opening room))
+    ended-none (listed .ends) (rows-read ran k lent opening room)
 
 -- The list that read made of any two rows, let in at column k.
 module _ {cdm cds lent after : List ℕ} {k n : ℕ} (listed : Listed cdm cds k lent (Made n) after) where
@@ -84,7 +82,7 @@ module _ {cdm cds lent after : List ℕ} {k n : ℕ} (listed : Listed cdm cds k 
       → length (listText (listIn n after)) ≤ length room → answer ≡ Made (length (listText (listIn n after)))
   list-prints {room} printed enough =
       let is-list : isList (listIn n after) ≡ true = rw (list-bytes listed) (bytes-list (listOf k cdm cds)) in
-      printed .answers ∙ sym (made-answer _ _ (list-none (listIn n after) (length room) is-list (le-ltb _ _ enough)))
+      ended-none printed (list-none (listIn n after) (length room) is-list (le-ltb _ _ enough))
 
 -- "Two runs with the same rights and master row that differ only in registers without the read right give the same answer row."
 pub two-runs : {slaves c d : ℕ} {rights cdm registers cds registers′ cds′ others row others′ row′ : List ℕ}
@@ -94,10 +92,10 @@ two-runs {slaves} {cdm} ran ran′ differ =
     row-bytes ran ∙ ap (map num) (line.two-runs _ _ (rowOf cdm) (all-alike slaves differ)) ∙ sym (row-bytes ran′)
 
 -- "Rows go to text and back unchanged": what rows to text wrote, text to rows takes back, into rows with room for it.
-pub rows-come-back : (cdm cds : List ℕ) {lent text a b a′ b′ : List ℕ} {n : ℕ} {answer : Taken}
+pub rows-come-back : (cdm cds : List ℕ) {lent text a b a′ b′ : List ℕ} {n : ℕ} {answer : Outcome}
     → RowsPrinted cdm cds lent (Made n) text → RowsTaken (take n text) a b answer a′ b′
     → length cdm ≤ length a → length cdm ≤ length b
-    → (answer ≡ Columns (length cdm)) × (take (length cdm) a′ ≡ cdm) × (take (length cdm) b′ ≡ cds)
+    → (answer ≡ Made (length cdm)) × (take (length cdm) a′ ≡ cdm) × (take (length cdm) b′ ≡ cds)
 rows-come-back cdm cds printed rows room room′ =
     let accepted = printed-taken cdm cds printed rows room room′ in
     let there = rows-taken (rw accepted at rows) in
@@ -105,12 +103,12 @@ rows-come-back cdm cds printed rows room room′ =
     (accepted, there .cdm-there ∙ back .cdm-back, there .cds-there ∙ back .cds-back)
 
 -- .. and a text that it takes is that of its rows, byte for byte.
-pub text-is-rows : {text a b a′ b′ : List ℕ} {c : ℕ} → RowsTaken text a b (Columns c) a′ b′ → text ≡ rowsText (take c a′) (take c b′)
+pub text-is-rows : {text a b a′ b′ : List ℕ} {c : ℕ} → RowsTaken text a b (Made c) a′ b′ → text ≡ rowsText (take c a′) (take c b′)
 text-is-rows {text} rows =
     let there = rows-taken rows in rw (there .cdm-there, there .cds-there) (back-and-there text (there .good))
 
 -- Text to rows, read and list to text, one after the other on any text, as a program does that indexes a recording.
-module _ {text a b a′ b′ lent list room out : List ℕ} {c k n p : ℕ} (rows : RowsTaken text a b (Columns c) a′ b′)
+module _ {text a b a′ b′ lent list room out : List ℕ} {c k n p : ℕ} (rows : RowsTaken text a b (Made c) a′ b′)
     (listed : Listed (take c a′) (take c b′) k lent (Made n) list) (printed : ListPrinted (listIn n list) room (Made p) out) where
   -- What is printed is the list of the rows in the text ..
   pub list-is-printed : take p out ≡ listText (listBytes (listOf k (cdmOf text) (cdsOf text)))
@@ -129,7 +127,7 @@ module _ {text a b a′ b′ lent list room out : List ℕ} {c k n p : ℕ} (row
 pub account-is-printed : {slaves c d n m p : ℕ}
     {rights registers cdm cds registers′ cds′ lent written a b a′ b′ lent′ list room out : List ℕ} → areBytes registers ≡ true
     → Ran slaves rights registers cdm cds (Made c) registers′ cds′ → RowsPrinted cdm cds′ lent (Made m) written
-    → RowsTaken (take m written) a b (Columns d) a′ b′ → Listed (take d a′) (take d b′) 0 lent′ (Made n) list
+    → RowsTaken (take m written) a b (Made d) a′ b′ → Listed (take d a′) (take d b′) 0 lent′ (Made n) list
     → ListPrinted (listIn n list) room (Made p) out
     → take p out ≡ listText (listBytes (account (memoriesOf slaves registers rights) (rowOf cdm)))
 account-is-printed {cdm} {cds′} bytes ran wrote rows listed printed =

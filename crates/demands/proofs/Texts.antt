@@ -1,22 +1,20 @@
 -- Rows through text: what it says that columns were taken, and that a printed text gives its rows back. Assumes nothing.
 use mathlib.Core.Path.{_≡_, sym, _∙_}
 use mathlib.Core.List.{List}
+use mathlib.Core.Option.{none, orElse}
 use Prim.Native.Nat.{ℕ, _≤_}
-use native.Mathlib.Omega.{arith}
-use borrow.Author.Tests.{ltb-false}
 use lib.ListN.{length, take}
 use Rattle.line.specs.Text.{badLine, cdmOf, cdsOf}
-use Rattle.line.proofs.Text.{neither, Back, there-and-back}
-use Rattle.job.specs.Rows.{wrongRows}
+use Rattle.line.proofs.Text.{Back, there-and-back}
+use Rattle.job.specs.Refusals.{first, lent, left}
+use Rattle.job.specs.declared.Outcome.{Outcome}
 use Rattle.job.specs.declared.Outcome.the-variants.{Made}
 use Rattle.job.proofs.Bits.{all-bits}
-use Rattle.job.proofs.Ends.{not-first, result-first}
+use Rattle.job.proofs.Refusals.{no, none-before, result-first, was-made, ended-none}
 use Rattle.job.proofs.Rows.{Right, right-rows}
 use Rattle.print.proofs.Ends.{was-printed}
-use Rattle.carry.specs.Carry.{rowsRefusal, RowsPrinted, textRefusal, taken, RowsTaken}
-use Rattle.carry.specs.declared.Taken.{Taken}
-use Rattle.carry.specs.declared.Taken.the-variants.{Columns}
-use Rattle.carry.proofs.Ends.{room-given, columns-in, was-taken}
+use Rattle.carry.specs.Carry.{rowsRefusals, RowsPrinted, textRefusals, RowsTaken}
+use Rattle.carry.proofs.Ends.{room-given, columns-in, form-good}
 
 -- Columns that were taken: the text has no bad line, and its rows stand at the start of the lent ones.
 pub record Rows (text : List ℕ) (n : ℕ) (cdm cds : List ℕ) : Type 0 where
@@ -24,23 +22,24 @@ pub record Rows (text : List ℕ) (n : ℕ) (cdm cds : List ℕ) : Type 0 where
   pub cdm-there : take n cdm ≡ cdmOf text
   pub cds-there : take n cds ≡ cdsOf text
 
-pub rows-taken : {text a b a′ b′ : List ℕ} {n : ℕ} → RowsTaken text a b (Columns n) a′ b′ → Rows text n a′ b′
-unfolding textRefusal
+pub rows-taken : {text a b a′ b′ : List ℕ} {n : ℕ} → RowsTaken text a b (Made n) a′ b′ → Rows text n a′ b′
+unfolding textRefusals
 rows-taken {text} {a} {b} {a′} {b′} {n} rows =
-    let why : ℕ = textRefusal text (length a) (length b) in
-    let done = was-taken why (badLine text) (length (cdmOf text)) (rows .answers) in
+    let done = was-made (rows .ends) in
     let both : length (cdmOf text) ≡ length (cdsOf text) = columns-in text .0 ∙ sym (columns-in text .1) in
+    let in-cdm : a′ ≡ left none (lent (cdmOf text) a) = cc in
+    let in-cds : b′ ≡ left none (lent (cdsOf text) b) = cc in
     record {
-      good = omega (arith, ltb-false 0 (badLine text) (not-first _ _ _ (done .0)));
-      cdm-there = rw (done .1, rows .leaves-cdm) (result-first why (cdmOf text) a (done .0));
-      cds-there = rw (done .1, both, rows .leaves-cds) (result-first why (cdsOf text) b (done .0));
+      good = form-good (badLine text) (no 11 _ (done .0));
+      cdm-there = rw (done .1, in-cdm) (result-first (cdmOf text) a);
+      cds-there = rw (done .1, both, in-cds) (result-first (cdsOf text) b);
     }
 
 -- Rows that were printed: their text gives them back, and with room for them it is not refused.
-module _ (cdm cds : List ℕ) {lent text : List ℕ} {n : ℕ} (printed : RowsPrinted cdm cds lent (Made n) text) where
+module _ (cdm cds : List ℕ) {out text : List ℕ} {n : ℕ} (printed : RowsPrinted cdm cds out (Made n) text) where
   printed-right : Right cdm cds
-  unfolding rowsRefusal
-  printed-right = right-rows cdm cds (neither (wrongRows cdm cds) _ (was-printed printed .0) .0)
+  unfolding rowsRefusals
+  printed-right = right-rows cdm cds (none-before _ _ (was-printed printed .0))
 
   pub printed-back : Back cdm cds (take n text)
   printed-back =
@@ -48,13 +47,10 @@ module _ (cdm cds : List ℕ) {lent text : List ℕ} {n : ℕ} (printed : RowsPr
       rw (was-printed printed .2)
       (there-and-back cdm cds (right .same) (all-bits cdm (right .cdm-bits)) (all-bits cds (right .cds-bits)))
 
-  pub printed-taken : {a b a′ b′ : List ℕ} {answer : Taken} → RowsTaken (take n text) a b answer a′ b′
-      → length cdm ≤ length a → length cdm ≤ length b → answer ≡ Columns (length cdm)
-  unfolding taken textRefusal
+  pub printed-taken : {a b a′ b′ : List ℕ} {answer : Outcome} → RowsTaken (take n text) a b answer a′ b′
+      → length cdm ≤ length a → length cdm ≤ length b → answer ≡ Made (length cdm)
+  unfolding textRefusals first orElse
   printed-taken {a} {b} rows room room′ =
-      rows .answers
-      ∙ rw (
-        printed-back .good,
-        printed-back .cdm-back,
-        room-given (length cdm) (length a) (length b) (printed-right .short) room room′,
-      )
+      let back = printed-back in
+      let fits = room-given (length cdm) (length a) (length b) (printed-right .short) room room′ in
+      rw (back .cdm-back) at (ended-none (rows .ends) (rw (back .good, back .cdm-back) fits))

@@ -8,7 +8,7 @@ use lib.Dec.{eqb}
 use lib.ListN.{length, take, getD}
 use Rattle.line.specs.Bits.{num, bit}
 use Rattle.line.specs.Entries.{Entry, note, fromBytes}
-use Rattle.job.specs.Outcome.{noneAbove}
+use Rattle.job.specs.Bytes.{noneAbove}
 
 -- A lent buffer holds bytes, as every slice of `u8` does.
 unfoldable pub areBytes : List ℕ → Bool

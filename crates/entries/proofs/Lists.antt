@@ -13,11 +13,12 @@ use Rattle.line.specs.Entries.{Kind, kinds, numbered, entryOf, fromBytes}
 use Rattle.line.specs.Text.{entryLine, lineOf, entryLines, listText, isEntry, isList}
 use Rattle.line.proofs.Every.{tested}
 use Rattle.line.proofs.Text.{both, four}
+use Rattle.job.specs.Refusals.{first, given}
 use Rattle.names.specs.Names as Names
 use Rattle.names.specs.Names.{isKind, isOne, kindLine}
 use Rattle.names.proofs.Numbers.{kind-low}
 use Rattle.entries.specs.Lines.{kindFields, lineAt}
-use Rattle.entries.specs.Lists.{listRefusal}
+use Rattle.entries.specs.Lists.{listRefusals}
 
 -- Six bytes are an entry where the first is a kind's number, and then their line is that of the number and the fields.
 entry-is : (o : Option Kind) (column id address value : ℕ) → isEntry (entryOf o column id address value) ≡ isOne o
@@ -107,16 +108,16 @@ text-length l = omega arith
 
 -- A list's refusal, in the words of its branches.
 module _ (list : List ℕ) (room : ℕ) where
-  pub list-twelve : isList list ≡ false → 12 ≡ listRefusal list room
-  unfolding listRefusal
+  pub list-twelve : isList list ≡ false → given 12 ≡ first (listRefusals list room)
+  unfolding listRefusals first
   list-twelve q = rw q
 
-  pub list-nine : isList list ≡ true → ltb room (length (listText list)) ≡ true → 9 ≡ listRefusal list room
-  unfolding listRefusal
+  pub list-nine : isList list ≡ true → ltb room (length (listText list)) ≡ true → given 9 ≡ first (listRefusals list room)
+  unfolding listRefusals first
   list-nine q long = rw (q, long)
 
-  pub list-none : isList list ≡ true → ltb room (length (listText list)) ≡ false → listRefusal list room ≡ 0
-  unfolding listRefusal
+  pub list-none : isList list ≡ true → ltb room (length (listText list)) ≡ false → first (listRefusals list room) ≡ none
+  unfolding listRefusals first
   list-none q long = rw (q, long)
 
 -- Room counted down.

@@ -9,6 +9,7 @@ ghost use Rattle.line.specs.Text.{field, isList, entryLines, listText};
 ghost use Rattle.print.specs.Laid.{Laid};
 ghost use Rattle.entries.specs.Lines.{kindFields, lineAt};
 ghost use Rattle.entries.specs.Lists.{ListPrinted};
+use job::Detail;
 use job::Outcome;
 
 // Text: a list's header line, of thirty bytes. Entries: "Six bytes".
@@ -29,13 +30,13 @@ pub fn list_to_text(list: &[u8], out: &mut [u8]) -> Outcome
 {
     if is_list(list) {
         if too_long(list, out.len()) {
-            return Outcome::Refused(9);
+            return Outcome::Refused(9, Detail::Alone);
         }
         let p = print::put_bytes(out, 0, b"event\tcolumn\tid\taddress\tvalue\n");
         let n = put_lines(out, p, list);
         Outcome::Made(n)
     } else {
-        Outcome::Refused(12)
+        Outcome::Refused(12, Detail::Alone)
     }
 }
 

@@ -1,13 +1,15 @@
 -- What was printed stands at the start of its buffer. Assumes nothing.
-use mathlib.Core.Path.{_≡_, refl, sym, ap}
+use mathlib.Core.Path.{_≡_, sym}
 use mathlib.Core.List.{List}
-use Prim.Native.Nat.{ℕ, zero, suc, _≤_}
-use native.Mathlib.Omega.{arith}
-use lib.ListN.{length, length-append, drop}
+use mathlib.Core.Option.{none}
+use Prim.Native.Nat.{ℕ, _≤_}
+use lib.ListN.{length}
 use lib.Seq.{length-take-le}
 use Rattle.io.specs.Counts.{Counts}
-use Rattle.job.specs.Outcome.{outcome, leaves}
+use Rattle.job.specs.Refusals.{Rule, lent, left}
 use Rattle.job.specs.declared.Outcome.{Outcome}
+use Rattle.job.specs.declared.Outcome.the-variants.{Made, Refused}
+use Rattle.job.proofs.Refusals.{result-fits, was-made}
 use Rattle.print.specs.Printed.{Printed}
 use Rattle.intake.specs.Counted.{Printable}
 
@@ -15,11 +17,10 @@ use Rattle.intake.specs.Counted.{Printable}
 pub counts : (n : ℕ) (buffer : List ℕ) → n ≤ length buffer → Counts n buffer
 counts n buffer h = (h, sym (length-take-le n buffer h))
 
-made-counts : (refusal : ℕ) (text lent : List ℕ) → Printable (outcome refusal (length text)) (leaves refusal text lent)
-unfolding outcome leaves
-made-counts zero text lent = counts (length text) _ (omega (arith, length-append text (drop (length text) lent)))
-made-counts (suc n) text lent = tt
-
-pub printable : {refusal : ℕ} {text lent : List ℕ} {answer : Outcome} {after : List ℕ} → Printed refusal text lent answer after
+pub printable : {refusals : List Rule} {text out : List ℕ} (answer : Outcome) {after : List ℕ} → Printed refusals text out answer after
     → Printable answer after
-printable {refusal} {text} {lent} printed = rw (printed .answers, printed .leaves-text) (made-counts refusal text lent)
+printable {text} {out} (Made n) {after} printed =
+    let done = was-made printed in
+    let there : after ≡ left none (lent text out) = cc in
+    counts n after (rw (there, done .1) (result-fits text out))
+printable (Refused number beside) printed = tt

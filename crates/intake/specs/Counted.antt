@@ -8,4 +8,4 @@ use Rattle.job.specs.declared.Outcome.the-variants.{Made, Refused}
 -- So many bytes at its start, or nothing.
 abbrev pub Printable : Outcome → (buffer : List ℕ) → Type 0
 Printable (Made n) buffer = Counts n buffer
-Printable (Refused n) buffer = Unit {0}
+Printable (Refused number beside) buffer = Unit {0}

@@ -164,7 +164,7 @@ fn print(out: &[u8], answered: Outcome)
                 words::not_written();
             }
         }
-        Outcome::Refused(_) => words::no_room(),
+        Outcome::Refused(_, _) => words::no_room(),
     }
 }
 

@@ -11,7 +11,7 @@ use lib.ListN.{length, drop, getD, drop-of-length-le}
 use lib.Seq.{drop-cons}
 use Rattle.line.specs.Bits.{num}
 use Rattle.line.proofs.Text.{Bits, both}
-use Rattle.job.specs.Outcome.{noneAbove, areBits}
+use Rattle.job.specs.Bytes.{noneAbove, areBits}
 
 module _ (limit : ℕ) (bytes : List ℕ) (i : ℕ) (good : Bool) where
   -- What was found goes over the next byte to what is left behind it ..

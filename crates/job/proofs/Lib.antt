@@ -1,5 +1,4 @@
-pub mod Bits
-pub mod Ends
-pub mod Laid
 pub mod Refusals
+pub mod Bits
+pub mod Laid
 pub mod Rows

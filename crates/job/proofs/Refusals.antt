@@ -1,7 +1,7 @@
 -- What holds of every list of rules, and of every job that ends by one, whatever its numbers are: when a number is given, what is known
 -- where none is, rules behind others, the ends of a job, and that it has one answer. Assumes nothing.
 use mathlib.Core.Path.{_≡_, refl, sym, ap, _∙_}
-use mathlib.Core.Bool.{Bool, true, false, cond}
+use mathlib.Core.Bool.{Bool, true, false, cond, _||_, true≢false}
 use mathlib.Core.List.{List, [], _∷_, _++_, map, append-nil}
 use mathlib.Core.Logic.{_↔_}
 use mathlib.Core.Option.{Option, none, some, orElse, Option·none-ne-some}
@@ -11,9 +11,11 @@ use lib.Dec.{eqb}
 use lib.ListN.{length, take, drop, length-append, drop-of-length-le}
 use lib.Seq.{sets, take-append-seam}
 use Rattle.line.proofs.Unique.{one-answer}
-use Rattle.job.specs.Refusals.{alone, Refusal, refusal, Rule, when, found, first, given, made, refused, ending, told, Lent, lent, left, Ended}
+use Rattle.job.specs.Refusals.{alone, Refusal, refusal, Rule, when, found, first, given, made, refused, ending, detail, told, Lent, lent, left, Ended}
 use Rattle.job.specs.declared.Outcome.{Outcome}
 use Rattle.job.specs.declared.Outcome.the-variants.{Made, Refused}
+use Rattle.job.specs.declared.Detail as Code
+use Rattle.job.specs.declared.Detail.the-variants.{Alone, OnLine}
 use Rattle.job.proofs.Laid.{sets-first}
 
 -- A rule holds and gives a refusal ..
@@ -103,6 +105,10 @@ fails n (found label f ∷ rules) c = either (eqb n label) (c .0) (fails n rules
 pub no : (n : ℕ) (rules : List Rule) → first rules ≡ none → Fails n rules
 no n rules e = fails n rules (clear rules e)
 
+pub no-either : (a b : Bool) → a || b ≡ false → (a ≡ false) × (b ≡ false)
+no-either true b e = absurd (true≢false e)
+no-either false b e = (refl, e)
+
 -- Rules behind others are tried where those give nothing.
 pub first-append : (rules more : List Rule) → first (rules ++ more) ≡ orElse (first rules) (first more)
 unfolding first orElse
@@ -151,9 +157,12 @@ module _ (rules more : List Rule) where
 -- No two answers of the code are told alike, so that a promise of what is told has one answer.
 one-told : (a b : Outcome) → told a ≡ told b → a ≡ b
 one-told (Made n) (Made m) e = cc
-one-told (Made n) (Refused k) e = cc
-one-told (Refused k) (Made n) e = cc
-one-told (Refused k) (Refused m) e = cc
+one-told (Made n) (Refused k d) e = cc
+one-told (Refused k d) (Made n) e = cc
+one-told (Refused k Alone) (Refused m Alone) e = cc
+one-told (Refused k Alone) (Refused m (OnLine l)) e = cc
+one-told (Refused k (OnLine l)) (Refused m Alone) e = cc
+one-told (Refused k (OnLine l)) (Refused m (OnLine j)) e = cc
 
 -- A buffer as it was lent.
 abbrev pub unchanged : Lent → List ℕ
@@ -190,9 +199,9 @@ module _ (rules : List Rule) (count : ℕ) (buffers : List Lent) where
       → Ended rules count buffers answer (map unchanged buffers)
   ended-refused answer r e g = record { answers = e ∙ rw g; leaves = rw g (all-unchanged r buffers) }
 
-  pub ended-given : (why : ℕ) → given why ≡ first rules → (why ≡ 0 → ⊥) → Ended rules count buffers (Refused why) (map unchanged buffers)
+  pub ended-given : (why : ℕ) → given why ≡ first rules → (why ≡ 0 → ⊥) → Ended rules count buffers (Refused why Alone) (map unchanged buffers)
   ended-given zero e h = absurd (h refl)
-  ended-given (suc n) e h = ended-refused (Refused (suc n)) (refusal (suc n) alone) refl (sym e)
+  ended-given (suc n) e h = ended-refused (Refused (suc n) Alone) (refusal (suc n) alone) refl (sym e)
 
   -- .. or made.
   pub ended-made : (n : ℕ) (after : List (List ℕ)) → first rules ≡ none → n ≡ count → after ≡ map (left none) buffers
@@ -210,10 +219,11 @@ module _ {rules : List Rule} {count : ℕ} {buffers : List Lent} {after : List (
       from none e l = (refl, cc, l)
       from (some r) e l = absurd (let z : _≡_ {A = ℕ} 0 1 = cc in omega arith)
 
-  pub was-refused : {number : ℕ} → Ended rules count buffers (Refused number) after → first rules ≡ some (refusal number alone)
-  was-refused {number} ended = from (first rules) (ended .answers)
+  pub was-refused : {number : ℕ} {beside : Code.Detail} → Ended rules count buffers (Refused number beside) after
+      → first rules ≡ some (refusal number (detail beside))
+  was-refused {number} {beside} ended = from (first rules) (ended .answers)
     where
-      from : (f : Option Refusal) → refused (refusal number alone) ≡ ending f count → f ≡ some (refusal number alone)
+      from : (f : Option Refusal) → refused (refusal number (detail beside)) ≡ ending f count → f ≡ some (refusal number (detail beside))
       from none e = absurd (let z : _≡_ {A = ℕ} 0 1 = cc in omega arith)
       from (some r) e = cc
 

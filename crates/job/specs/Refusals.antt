@@ -9,6 +9,8 @@ use Prim.Native.Nat.{ℕ, zero, suc}
 use lib.ListN.{length, drop}
 use Rattle.job.specs.declared.Outcome.{Outcome}
 use Rattle.job.specs.declared.Outcome.the-variants.{Made, Refused}
+use Rattle.job.specs.declared.Detail as Code
+use Rattle.job.specs.declared.Detail.the-variants.{Alone, OnLine}
 
 -- What is told beside a refusal's number: nothing; or a line, "counted from 1".
 pub data Detail : Type 0 where
@@ -46,10 +48,15 @@ abbrev pub ending : Option Refusal → (count : ℕ) → Ending
 ending none count = made count
 ending (some r) count = refused r
 
--- This paper's number and values for each case of what the code answers.
+-- This paper's number and values for each case of what the code answers: what is told beside the number ..
+abbrev pub detail : Code.Detail → Detail
+detail Alone = alone
+detail (OnLine line) = on-line line
+
+-- .. and the end.
 abbrev pub told : Outcome → Ending
 told (Made count) = made count
-told (Refused number) = refused (refusal number alone)
+told (Refused number beside) = refused (refusal number (detail beside))
 
 -- A lent buffer: what is to stand at its start, and its bytes as they were lent.
 pub data Lent : Type 0 where

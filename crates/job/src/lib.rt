@@ -1,10 +1,12 @@
 // What the four jobs share: how a job ends, and the tests of lent bytes.
 ghost use mathlib.Core.Path.{_≡_};
-ghost use mathlib.Core.Bool.{true, cond, _&&_};
+ghost use mathlib.Core.Bool.{true, not, _&&_};
+ghost use mathlib.Core.List.{_∷_, []};
+ghost use mathlib.Core.Option.{orElse};
 ghost use lib.Dec.{leb};
-ghost use Rattle.line.specs.Text.{orElse};
-ghost use Rattle.job.specs.Outcome.{noneAbove, areBits};
-ghost use Rattle.job.specs.Rows.{rowFault, wrongRows, wrongRow};
+ghost use Rattle.job.specs.Refusals.{when, first, given};
+ghost use Rattle.job.specs.Bytes.{noneAbove, areBits};
+ghost use Rattle.job.specs.Rows.{rowRules, wrongRows, wrongRow};
 
 // Columns: "A row has 0 to 4,096 columns."
 const COLUMN_LIMIT: usize = 4096;
@@ -12,27 +14,35 @@ const COLUMN_LIMIT: usize = 4096;
 pub enum Outcome {
     // So many columns, bytes or entries were made.
     Made(usize),
-    // A number of paper 01's table; no lent byte was changed.
-    Refused(u8),
+    // A number of paper 01's table, and what is told beside it; no lent byte was changed.
+    Refused(u8, Detail),
+}
+
+// What a refusal tells beside its number.
+pub enum Detail {
+    // Nothing.
+    Alone,
+    // A line of a text, counted from 1.
+    OnLine(usize),
 }
 
 // 5, 6 or 7 for two rows, or 0 where they are refused by none of them.
 pub fn wrong_rows(cdm: &[u8], cds: &[u8]) -> u8
-    ensures { λ r. ⌜ r ≡ wrongRows (now (cdm .entry)) (now (cds .entry)) ⌝ }
+    ensures { λ r. ⌜ given r ≡ first (wrongRows (now (cdm .entry)) (now (cds .entry))) ⌝ }
 {
     judged(wrong_row(cdm, cds.len()), cds)
 }
 
 // The same for a row, and another of so many columns whose bytes are not judged.
 pub fn wrong_row(cdm: &[u8], columns: usize) -> u8
-    ensures { λ r. ⌜ r ≡ wrongRow (now (cdm .entry)) columns ⌝ }
+    ensures { λ r. ⌜ given r ≡ first (wrongRow (now (cdm .entry)) columns) ⌝ }
 {
     judged(wrong_lengths(cdm.len(), columns), cdm)
 }
 
 // What is given already, or else 7 by a row's bytes.
 fn judged(why: u8, row: &[u8]) -> u8
-    ensures { λ r. ⌜ r ≡ orElse why (cond (areBits (now (row .entry))) 0 7) ⌝ }
+    ensures { λ r. ⌜ given r ≡ orElse (given why) (first (when (not (areBits (now (row .entry)))) 7 ∷ [])) ⌝ }
 {
     if why != 0 {
         return why;
@@ -42,7 +52,7 @@ fn judged(why: u8, row: &[u8]) -> u8
 
 // 5 or 6 by the lengths alone.
 fn wrong_lengths(columns: usize, others: usize) -> u8
-    ensures { λ r. ⌜ r ≡ rowFault columns others true ⌝ }
+    ensures { λ r. ⌜ given r ≡ first (rowRules columns others true) ⌝ }
 {
     if COLUMN_LIMIT < columns {
         5

@@ -4,7 +4,9 @@ use mathlib.Core.Path.{_≡_}
 use mathlib.Core.List.{List}
 use Prim.Native.Nat.{ℕ}
 use Rattle.line.proofs.Unique.{one-answer}
+use Rattle.job.specs.Refusals.{Rule}
 use Rattle.job.specs.declared.Outcome.{Outcome}
+use Rattle.job.proofs.Refusals.{ended-unique}
 use Rattle.print.specs.Laid.{Laid}
 use Rattle.print.specs.Printed.{Printed}
 
@@ -12,7 +14,6 @@ laid-unique : (bytes lent : List ℕ) (at a b : ℕ) (x y : List ℕ) → Laid b
 laid-unique bytes lent at a b x y p q = (one-answer (p .behind) (q .behind), one-answer (p .laid) (q .laid))
 
 -- Rows to text, and list to text.
-pub printed-unique : (refusal : ℕ) (text lent : List ℕ) (a b : Outcome) (x y : List ℕ)
-    → Printed refusal text lent a x → Printed refusal text lent b y → (a ≡ b) × (x ≡ y)
-printed-unique refusal text lent a b x y p q =
-    (one-answer (p .answers) (q .answers), one-answer (p .leaves-text) (q .leaves-text))
+pub printed-unique : {rules : List Rule} {text out : List ℕ} {a b : Outcome} {x y : List ℕ} → Printed rules text out a x
+    → Printed rules text out b y → (a ≡ b) × (x ≡ y)
+printed-unique p q = let same = ended-unique p q in (same .0, cc)

@@ -2,10 +2,10 @@
 use mathlib.Core.Path.{_≡_}
 use mathlib.Core.List.{List}
 use Prim.Native.Nat.{ℕ}
-use Rattle.line.proofs.Unique.{one-answer}
 use Rattle.job.specs.declared.Outcome.{Outcome}
+use Rattle.job.proofs.Refusals.{ended-unique}
 use Rattle.read.specs.Read.{Listed}
 
-read-unique : {cdm cds : List ℕ} {k : ℕ} {lent : List ℕ} {a b : Outcome} {after other : List ℕ} → Listed cdm cds k lent a after
-    → Listed cdm cds k lent b other → (a ≡ b) × (after ≡ other)
-read-unique p q = (one-answer (p .answers) (q .answers), one-answer (p .leaves-list) (q .leaves-list))
+read-unique : {cdm cds : List ℕ} {k : ℕ} {out : List ℕ} {a b : Outcome} {after other : List ℕ} → Listed cdm cds k out a after
+    → Listed cdm cds k out b other → (a ≡ b) × (after ≡ other)
+read-unique p q = let same = ended-unique (p .ends) (q .ends) in (same .0, cc)

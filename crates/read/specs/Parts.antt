@@ -9,13 +9,13 @@ use lib.Seq.{sets}
 use Rattle.line.specs.Limits.{columnLimit}
 use Rattle.line.specs.Entries as line
 use Rattle.line.specs.Entries.{listBytes}
-use Rattle.line.specs.Text.{orElse}
+use Rattle.job.specs.Refusals.{Rule, when}
 use Rattle.job.specs.Rows.{wrongRows}
 use Rattle.reader.specs.declared.Entry.{Entry}
 
 -- Refusals 5 to 8 alone.
-unfoldable pub rowsRefusal : (cdm cds : List ℕ) → (k : ℕ) → ℕ
-rowsRefusal cdm cds k = orElse (wrongRows cdm cds) (cond (ltb (length cdm) k) 8 0)
+unfoldable pub rowsRefusals : (cdm cds : List ℕ) → (k : ℕ) → List Rule
+rowsRefusals cdm cds k = wrongRows cdm cds ++ when (ltb (length cdm) k) 8 ∷ []
 
 -- What the rows are where none of these is given; the bytes' values do not matter to the scan.
 pub record Rows (cdm cds : List ℕ) (k : ℕ) : Type 0 where

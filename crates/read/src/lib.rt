@@ -6,9 +6,11 @@ ghost use lib.Dec.{leb};
 ghost use lib.ListN.{length};
 ghost use lib.Seq.{sets};
 ghost use Rattle.line.specs.Limits.{columnLimit};
+ghost use Rattle.job.specs.Refusals.{first, given};
 ghost use Rattle.reader.specs.Code.{small};
 ghost use Rattle.read.specs.Read.{listOf, Listed};
-ghost use Rattle.read.specs.Parts.{rowsRefusal, Rows, sixOf, kept, filled};
+ghost use Rattle.read.specs.Parts.{rowsRefusals, Rows, sixOf, kept, filled};
+use job::Detail;
 use job::Outcome;
 use reader::Entry;
 use reader::Reader;
@@ -21,19 +23,19 @@ pub fn read(cdm: &[u8], cds: &[u8], opening: usize, out: &mut [u8]) -> Outcome
 {
     let why = rows_refusal(cdm, cds, opening);
     if why != 0 {
-        return Outcome::Refused(why);
+        return Outcome::Refused(why, Detail::Alone);
     }
     if has_room(cdm, cds, opening, out) {
         let n = scan(cdm, cds, opening, out);
         Outcome::Made(n)
     } else {
-        Outcome::Refused(9)
+        Outcome::Refused(9, Detail::Alone)
     }
 }
 
 // 5, 6, 7 or 8, or 0 where the rows and the opening column are refused by none of them.
 fn rows_refusal(cdm: &[u8], cds: &[u8], opening: usize) -> u8
-    ensures { λ r. ⌜ r ≡ rowsRefusal (now (cdm .entry)) (now (cds .entry)) opening ⌝ }
+    ensures { λ r. ⌜ given r ≡ first (rowsRefusals (now (cdm .entry)) (now (cds .entry)) opening) ⌝ }
 {
     let why = job::wrong_rows(cdm, cds);
     if why != 0 {

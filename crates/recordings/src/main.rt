@@ -196,7 +196,7 @@ fn recorded(what: &[u8], row: [u8; 64], right: u8, sent: usize, answered: usize)
     let mut list = [0u8; 384];
     match read::read(&cdm, &cds, 0, &mut list) {
         Outcome::Made(entries) => listed(&list, entries),
-        Outcome::Refused(number) => refused(number),
+        Outcome::Refused(number, _) => refused(number),
     }
 }
 

@@ -1,6 +1,5 @@
 -- The job run: a chain of slaves over a master row; when it refuses, and what it leaves. The chain itself is line's (specs/Chain).
-use mathlib.Core.Path.{_≡_}
-use mathlib.Core.Bool.{cond, not}
+use mathlib.Core.Bool.{not}
 use mathlib.Core.List.{List, [], _∷_, _++_, map}
 use Prim.Native.Nat.{ℕ, zero, suc, _*_}
 use lib.Dec.{ltb, eqb}
@@ -9,7 +8,8 @@ use Rattle.line.specs.Limits.{slaveLimit, registerCount}
 use Rattle.line.specs.Bits.{num, rowOf}
 use Rattle.line.specs.Memory.{Memory}
 use Rattle.line.specs.Chain.{answersFrom, memoriesAfter}
-use Rattle.job.specs.Outcome.{outcome, leaves, noneAbove}
+use Rattle.job.specs.Bytes.{noneAbove}
+use Rattle.job.specs.Refusals.{Rule, when, lent, Ended}
 use Rattle.job.specs.Rows.{wrongRow}
 use Rattle.job.specs.declared.Outcome.{Outcome}
 
@@ -27,24 +27,19 @@ registersOf (k ∷ ks) = k .registers ++ registersOf ks
 
 -- "Run: 1 to 7." Refusals 1 to 4: "more than 16 slaves"; "registers not 128 x slaves bytes"; "rights not 128 x slaves bytes"; "a right
 -- above 3". The registers and the answer row count by their lengths alone; 5 to 7 are those of any rows (job's specs/Rows).
-unfoldable pub refusal : (slaves registers : ℕ) → (rights cdm : List ℕ) → (columns : ℕ) → ℕ
-refusal slaves registers rights cdm columns =
-    cond (ltb slaveLimit slaves) 1
-    (cond (not (eqb registers (registerCount * slaves))) 2
-    (cond (not (eqb (length rights) (registerCount * slaves))) 3
-    (cond (not (noneAbove 3 rights)) 4
-    (wrongRow cdm columns))))
+unfoldable pub refusals : (slaves registers : ℕ) → (rights cdm : List ℕ) → (columns : ℕ) → List Rule
+refusals slaves registers rights cdm columns =
+    when (ltb slaveLimit slaves) 1
+    ∷ when (not (eqb registers (registerCount * slaves))) 2
+    ∷ when (not (eqb (length rights) (registerCount * slaves))) 3
+    ∷ when (not (noneAbove 3 rights)) 4
+    ∷ wrongRow cdm columns
 
--- What run answers, and what it leaves in the lent registers and in the lent answer row.
+-- What run answers, in columns, and what it leaves in the lent registers and in the lent answer row.
 pub record Ran (slaves : ℕ) (rights registers cdm cds : List ℕ) (answer : Outcome) (registers′ cds′ : List ℕ) : Type 0 where
-  pub answers : answer ≡ outcome (refusal slaves (length registers) rights cdm (length cds)) (length cdm)
-  pub leaves-registers :
-      registers′
-      ≡ leaves (refusal slaves (length registers) rights cdm (length cds))
-      (registersOf (memoriesAfter (memoriesOf slaves registers rights) (rowOf cdm)))
-      registers
-  pub leaves-row :
-      cds′
-      ≡ leaves (refusal slaves (length registers) rights cdm (length cds))
-      (map num (answersFrom (memoriesOf slaves registers rights) (rowOf cdm)))
-      cds
+  pub ends :
+      Ended (refusals slaves (length registers) rights cdm (length cds)) (length cdm)
+      (lent (registersOf (memoriesAfter (memoriesOf slaves registers rights) (rowOf cdm))) registers
+      ∷ lent (map num (answersFrom (memoriesOf slaves registers rights) (rowOf cdm))) cds
+      ∷ [])
+      answer (registers′ ∷ cds′ ∷ [])

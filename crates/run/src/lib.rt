@@ -3,8 +3,10 @@
 ghost use mathlib.Core.Path.{_≡_};
 ghost use lib.ListN.{length, replicate};
 ghost use Rattle.line.specs.Limits.{registerCount};
-ghost use Rattle.run.specs.Run.{refusal, Ran};
+ghost use Rattle.job.specs.Refusals.{first, given};
+ghost use Rattle.run.specs.Run.{refusals, Ran};
 ghost use Rattle.run.specs.Parts.{Holds, Passed, Rowed};
+use job::Detail;
 use job::Outcome;
 use slave::Seen;
 use slave::Slave;
@@ -31,7 +33,7 @@ pub fn run(
 {
     let why = refusal(slaves, registers.len(), rights, cdm, cds.len());
     if why != 0 {
-        return Outcome::Refused(why);
+        return Outcome::Refused(why, Detail::Alone);
     }
     answer_row(slaves, rights, registers, cdm, cds);
     Outcome::Made(cdm.len())
@@ -39,7 +41,7 @@ pub fn run(
 
 // 1 to 7, or 0 where none of them is given.
 fn refusal(slaves: usize, registers: usize, rights: &[u8], cdm: &[u8], columns: usize) -> u8
-    ensures { λ r. ⌜ r ≡ refusal slaves registers (now (rights .entry)) (now (cdm .entry)) columns ⌝ }
+    ensures { λ r. ⌜ given r ≡ first (refusals slaves registers (now (rights .entry)) (now (cdm .entry)) columns) ⌝ }
 {
     if SLAVES < slaves {
         1

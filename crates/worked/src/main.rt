@@ -78,7 +78,7 @@ fn ended(outcome: Outcome) {
             io::write_all(STDOUT_FILENO, b"made ");
             io::print_decimal(STDOUT_FILENO, columns as u64);
         }
-        Outcome::Refused(number) => {
+        Outcome::Refused(number, _) => {
             io::write_all(STDOUT_FILENO, b"refused ");
             io::print_decimal(STDOUT_FILENO, number as u64);
         }

@@ -1,8 +1,8 @@
--- `answer::answer` meets its contract: the answer of the rows that the text gives, 5, or 11 with its line. Assumes nothing.
+-- `answer::answer` meets its contract: the answer of the rows that the text gives, or the refusal. Assumes nothing.
 use mathlib.Core.Path.{sym}
 use borrow.Author.Needs.{needs}
 use lib.Seq.{length-take-le}
-use Rattle.answer.proofs.Rows.{says, rows-right, answers-rows, answers-long, answers-bad}
+use Rattle.answer.proofs.Rows.{says, rows-right, answers-rows}
 use Rattle.answer.proofs.answer.Statement.{statement}
 use Rattle.answer.proofs.answer.Tie as tie
 
@@ -29,7 +29,7 @@ array-share-prefix-cdm c =
     let told = c .before in
     let take = told .before .before .before .before in
     let cds-room = take .before .before .before in
-    let t = rw (told .taken .given .1) at (says _ _ _ (cds-room .before .row .ensures) (cds-room .row2 .ensures) (take .text-to-rows .ensures)) in
+    let t = rw (told .taken .given .1) at (says _ _ _ (cds-room .before .row .ensures) (cds-room .row2 .ensures) _ (take .text-to-rows .ensures)) in
     t .in-cdm
 
 slice-aggregate-rows-answer : tie.Need-slice-aggregate-rows-answer
@@ -37,7 +37,7 @@ slice-aggregate-rows-answer c =
     let told = c .before .before in
     let take = told .before .before .before .before in
     let cds-room = take .before .before .before in
-    let t = rw (told .taken .given .1) at (says _ _ _ (cds-room .before .row .ensures) (cds-room .row2 .ensures) (take .text-to-rows .ensures)) in
+    let t = rw (told .taken .given .1) at (says _ _ _ (cds-room .before .row .ensures) (cds-room .row2 .ensures) _ (take .text-to-rows .ensures)) in
     sym (length-take-le _ _ (t .in-cdm))
 
 array-share-prefix-cds : tie.Need-array-share-prefix-cds
@@ -45,7 +45,7 @@ array-share-prefix-cds c =
     let told = c .before .before in
     let take = told .before .before .before .before in
     let cds-room = take .before .before .before in
-    let t = rw (told .taken .given .1) at (says _ _ _ (cds-room .before .row .ensures) (cds-room .row2 .ensures) (take .text-to-rows .ensures)) in
+    let t = rw (told .taken .given .1) at (says _ _ _ (cds-room .before .row .ensures) (cds-room .row2 .ensures) _ (take .text-to-rows .ensures)) in
     t .in-cds
 
 slice-aggregate-rows-answer-2 : tie.Need-slice-aggregate-rows-answer-2
@@ -53,7 +53,7 @@ slice-aggregate-rows-answer-2 c =
     let told = c .before .before .before in
     let take = told .before .before .before .before in
     let cds-room = take .before .before .before in
-    let t = rw (told .taken .given .1) at (says _ _ _ (cds-room .before .row .ensures) (cds-room .row2 .ensures) (take .text-to-rows .ensures)) in
+    let t = rw (told .taken .given .1) at (says _ _ _ (cds-room .before .row .ensures) (cds-room .row2 .ensures) _ (take .text-to-rows .ensures)) in
     sym (length-take-le _ _ (t .in-cds))
 
 rows-answer-requires : tie.Need-rows-answer-requires
@@ -61,7 +61,7 @@ rows-answer-requires c κs =
     let told = c .before .before .before .before in
     let take = told .before .before .before .before in
     let cds-room = take .before .before .before in
-    let t = rw (told .taken .given .1) at (says _ _ _ (cds-room .before .row .ensures) (cds-room .row2 .ensures) (take .text-to-rows .ensures)) in
+    let t = rw (told .taken .given .1) at (says _ _ _ (cds-room .before .row .ensures) (cds-room .row2 .ensures) _ (take .text-to-rows .ensures)) in
     rows-right t
 
 enum-known-taken-2 : tie.Need-enum-known-taken-2
@@ -69,12 +69,6 @@ enum-known-taken-2 c = search needs
 
 refused-requires : tie.Need-refused-requires
 refused-requires c κs = search needs
-
-enum-known-taken-3 : tie.Need-enum-known-taken-3
-enum-known-taken-3 c = search needs
-
-bad-line-requires : tie.Need-bad-line-requires
-bad-line-requires c κs = search needs
 
 same-length : tie.Need-same-length
 same-length c = search needs
@@ -85,7 +79,7 @@ returns c =
     let told = print .before .before .before .before .before in
     let take = told .before .before .before .before in
     let cds-room = take .before .before .before in
-    let t = rw (told .taken .given .1) at (says _ _ _ (cds-room .before .row .ensures) (cds-room .row2 .ensures) (take .text-to-rows .ensures)) in
+    let t = rw (told .taken .given .1) at (says _ _ _ (cds-room .before .row .ensures) (cds-room .row2 .ensures) _ (take .text-to-rows .ensures)) in
     rw (answers-rows _ _ (t .good) (t .short), ← t .cdm-row, ← t .cds-row) (print .rows-answer .ensures)
 
 same-length-2 : tie.Need-same-length-2
@@ -97,20 +91,8 @@ returns-2 c =
     let told = print .before .before .before in
     let take = told .before .before .before .before in
     let cds-room = take .before .before .before in
-    let t = rw (told .taken2 .given .1) at (says _ _ _ (cds-room .before .row .ensures) (cds-room .row2 .ensures) (take .text-to-rows .ensures)) in
-    rw (answers-long _ _ (t .0) (t .1), ← t .2) (print .refused .ensures)
-
-same-length-3 : tie.Need-same-length-3
-same-length-3 c = search needs
-
-returns-3 : tie.Need-returns-3
-returns-3 c =
-    let print = c .before .before in
-    let told = print .before .before .before in
-    let take = told .before .before .before .before in
-    let cds-room = take .before .before .before in
-    let t = rw (told .taken3 .given .1) at (says _ _ _ (cds-room .before .row .ensures) (cds-room .row2 .ensures) (take .text-to-rows .ensures)) in
-    rw (answers-bad _ _ (t .0), ← t .1) (print .bad-line .ensures)
+    let t = rw (told .taken2 .given .1) at (says _ _ _ (cds-room .before .row .ensures) (cds-room .row2 .ensures) _ (take .text-to-rows .ensures)) in
+    rw (t _) (print .refused .ensures)
 
 pub answer-spec : {M : Type 1} → statement M
 answer-spec =
@@ -129,11 +111,7 @@ answer-spec =
     rows-answer-requires
     enum-known-taken-2
     refused-requires
-    enum-known-taken-3
-    bad-line-requires
     same-length
     returns
     same-length-2
-    returns-2
-    same-length-3
-    returns-3)
+    returns-2)

@@ -1,8 +1,8 @@
--- `answer::rows_answer` meets its contract: the list that read makes as text, or 8. Assumes nothing.
+-- `answer::rows_answer` meets its contract: the list that read makes as text, or the refusal. Assumes nothing.
 use mathlib.Core.Path.{sym}
 use borrow.Author.Needs.{needs}
 use lib.Seq.{length-take-le}
-use Rattle.answer.proofs.Rows.{lists, answers-list, answers-late}
+use Rattle.answer.proofs.Rows.{lists, answers-list}
 use Rattle.answer.proofs.rows_answer.Statement.{statement}
 use Rattle.answer.proofs.rows_answer.Tie as tie
 
@@ -24,7 +24,7 @@ mul-list c =
     let read = told .before .before .before in
     let room = read .before .before in
     let pre = room .before .before .before .before .pre in
-    let l = rw (told .listed .given .1) at (lists _ _ _ pre _ (room .list-room .ensures) (read .read .ensures)) in
+    let l = rw (told .listed .given .1) at (lists _ _ _ pre _ (room .list-room .ensures) _ (read .read .ensures)) in
     search needs
 
 array-share-prefix-list : tie.Need-array-share-prefix-list
@@ -33,7 +33,7 @@ array-share-prefix-list c =
     let read = told .before .before .before in
     let room = read .before .before in
     let pre = room .before .before .before .before .pre in
-    let l = rw (told .listed .given .1) at (lists _ _ _ pre _ (room .list-room .ensures) (read .read .ensures)) in
+    let l = rw (told .listed .given .1) at (lists _ _ _ pre _ (room .list-room .ensures) _ (read .read .ensures)) in
     l .1
 
 slice-aggregate-list-to-text : tie.Need-slice-aggregate-list-to-text
@@ -42,7 +42,7 @@ slice-aggregate-list-to-text c =
     let read = told .before .before .before in
     let room = read .before .before in
     let pre = room .before .before .before .before .pre in
-    let l = rw (told .listed .given .1) at (lists _ _ _ pre _ (room .list-room .ensures) (read .read .ensures)) in
+    let l = rw (told .listed .given .1) at (lists _ _ _ pre _ (room .list-room .ensures) _ (read .read .ensures)) in
     sym (length-take-le _ _ (l .1))
 
 list-to-text-requires : tie.Need-list-to-text-requires
@@ -64,7 +64,7 @@ returns c =
     let read = told .before .before .before in
     let room = read .before .before in
     let pre = room .before .before .before .before .pre in
-    let l = rw (told .listed .given .1) at (lists _ _ _ pre _ (room .list-room .ensures) (read .read .ensures)) in
+    let l = rw (told .listed .given .1) at (lists _ _ _ pre _ (room .list-room .ensures) _ (read .read .ensures)) in
     answers-list _ _ _ (l .0) (l .2) (print .list-to-text .ensures)
 
 same-length-2 : tie.Need-same-length-2
@@ -77,8 +77,8 @@ returns-2 c =
     let read = told .before .before .before in
     let room = read .before .before in
     let pre = room .before .before .before .before .pre in
-    let l = rw (told .listed2 .given .1) at (lists _ _ _ pre _ (room .list-room .ensures) (read .read .ensures)) in
-    rw (answers-late _ _ _ (l .0), ← l .1) (print .refused .ensures)
+    let l = rw (told .listed2 .given .1) at (lists _ _ _ pre _ (room .list-room .ensures) _ (read .read .ensures)) in
+    rw l (print .refused .ensures)
 
 pub rows-answer-spec : {M : Type 1} → statement M
 rows-answer-spec =

@@ -1,7 +1,7 @@
 -- `build::begin` meets its contract: the columns are put where nothing refuses. Assumes nothing.
-use mathlib.Core.Path.{_≡_, refl, sym, _∙_}
 use borrow.Author.Needs.{needs}
 use borrow.Author.Tests.{eq-eqb, ne-eqb}
+use Rattle.job.proofs.Refusals.{gave-none}
 use Rattle.build.proofs.Ends.{access-inside, access-fits}
 use Rattle.build.proofs.begin.Statement.{statement}
 use Rattle.build.proofs.begin.Tie as tie
@@ -11,7 +11,7 @@ refusal-requires c κs = search needs
 
 put-access-requires : tie.Need-put-access-requires
 put-access-requires c κs =
-    let e = sym (c .before .before .refusal .ensures) ∙ c .before .if1 .taken in
+    let e = gave-none _ (c .before .before .refusal .ensures) (c .before .if1 .taken) in
     let within = access-inside _ _ _ _ e in
     let room = access-fits _ _ _ _ e in
     search needs

@@ -7,7 +7,7 @@ use lib.ListN.{length, drop}
 use lib.Seq.{sets}
 use Rattle.carry.proofs.Columns.{column-more, column-none, lines-length}
 use Rattle.line.specs.Text.{columnLines}
-use Rattle.job.specs.Outcome.{areBits}
+use Rattle.job.specs.Bytes.{areBits}
 use Rattle.job.proofs.Bits.{byte-at}
 use Rattle.print.proofs.Runs.{run-laid, laid-length}
 use Rattle.carry.proofs.put_columns.Statement.{statement}

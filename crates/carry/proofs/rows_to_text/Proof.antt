@@ -1,8 +1,8 @@
 -- `carry::rows_to_text` meets its contract: the header, and then the columns' lines. Assumes nothing.
-use mathlib.Core.Path.{sym, _∙_}
 use borrow.Author.Needs.{needs}
 use Rattle.carry.proofs.Columns.{text-length}
-use Rattle.print.proofs.Ends.{printed-refused, printed-made}
+use Rattle.job.proofs.Refusals.{gave-none, ended-given}
+use Rattle.print.proofs.Ends.{printed-made}
 use Rattle.job.proofs.Rows.{right-rows}
 use Rattle.carry.proofs.Ends.{rows-wrong, rows-nine, rows-none}
 use Rattle.line.specs.Text.{rowsText}
@@ -14,19 +14,19 @@ wrong-rows-requires : tie.Need-wrong-rows-requires
 wrong-rows-requires c κs = search needs
 
 returns : tie.Need-returns
-returns c = printed-refused _ _ _ _ (rows-wrong _ _ _ _ (c .before .wrong-rows .ensures) (c .if1 .taken)) (c .if1 .taken)
+returns c = ended-given _ _ _ _ (rows-wrong _ _ _ _ (c .before .wrong-rows .ensures) (c .if1 .taken)) (c .if1 .taken)
 
 mul-if2 : tie.Need-mul-if2
-mul-if2 c = let right = right-rows _ _ (sym (c .before .wrong-rows .ensures) ∙ c .if1 .left) in search needs
+mul-if2 c = let right = right-rows _ _ (gave-none _ (c .before .wrong-rows .ensures) (c .if1 .left)) in search needs
 
 add-if2 : tie.Need-add-if2
-add-if2 c = let right = right-rows _ _ (sym (c .before .wrong-rows .ensures) ∙ c .if1 .left) in search needs
+add-if2 c = let right = right-rows _ _ (gave-none _ (c .before .wrong-rows .ensures) (c .if1 .left)) in search needs
 
 returns-2 : tie.Need-returns-2
 returns-2 c =
     let asked = c .before .before in
-    let none = sym (asked .wrong-rows .ensures) ∙ c .before .if1 .left in
-    printed-refused _ _ _ _ (rows-nine _ _ _ none (c .if2 .taken)) (λ q. search needs)
+    let none = gave-none _ (asked .wrong-rows .ensures) (c .before .if1 .left) in
+    ended-given _ _ _ 9 (rows-nine _ _ _ none (c .if2 .taken)) (λ q. search needs)
 
 slice-aggregate-put-bytes : tie.Need-slice-aggregate-put-bytes
 slice-aggregate-put-bytes c = search needs
@@ -39,7 +39,7 @@ put-columns-requires c κs =
     let put = c .before .before .before in
     let fits = put .before .before .before in
     let asked = fits .before .before in
-    let right = right-rows _ _ (sym (asked .wrong-rows .ensures) ∙ fits .before .if1 .left) in
+    let right = right-rows _ _ (gave-none _ (asked .wrong-rows .ensures) (fits .before .if1 .left)) in
     let kept = laid-length (put .put-bytes .ensures) in
     (search needs, right .same, right .cdm-bits, right .cds-bits)
 
@@ -54,7 +54,7 @@ returns-3 c =
     let fits = put .before .before .before in
     let asked = fits .before .before in
     let a = asked .before .before .before .before .args in
-    let none = sym (asked .wrong-rows .ensures) ∙ fits .before .if1 .left in
+    let none = gave-none _ (asked .wrong-rows .ensures) (fits .before .if1 .left) in
     let long = text-length (a .cdm .now) (a .cds .now) (right-rows _ _ none .same) in
     printed-made _ _ _ (rows-none _ _ _ none (fits .if2 .left)) (search needs) (then (put .put-bytes .ensures) (columns .put-columns .ensures))
 

@@ -1,23 +1,24 @@
 -- `carry::text_room` meets its contract: the definition at the branches' tests. Assumes nothing.
+use Rattle.job.specs.Refusals.{first}
 use Rattle.carry.specs.Carry.{textRoom}
 use Rattle.line.proofs.Rules.{cases}
 use Rattle.carry.proofs.text_room.Statement.{statement}
 use Rattle.carry.proofs.text_room.Tie as tie
 
 returns : tie.Need-returns
-unfolding textRoom
+unfolding textRoom first
 returns c = search cases
 
 returns-2 : tie.Need-returns-2
-unfolding textRoom
+unfolding textRoom first
 returns-2 c = search cases
 
 returns-3 : tie.Need-returns-3
-unfolding textRoom
+unfolding textRoom first
 returns-3 c = search cases
 
 returns-4 : tie.Need-returns-4
-unfolding textRoom
+unfolding textRoom first
 returns-4 c = search cases
 
 pub text-room-spec : {M : Type 1} → statement M

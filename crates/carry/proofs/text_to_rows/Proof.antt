@@ -1,6 +1,7 @@
 -- `carry::text_to_rows` meets its contract: no bad line, room for the columns, and then their digits. Assumes nothing.
 use mathlib.Core.Path.{sym, _∙_}
 use borrow.Author.Needs.{needs}
+use Rattle.job.proofs.Refusals.{gave-none}
 use Rattle.carry.proofs.Ends.{room-enough, taken-bad, taken-refused, taken-columns}
 use Rattle.line.proofs.Text.{good-long}
 use Rattle.carry.proofs.text_to_rows.Statement.{statement}
@@ -28,7 +29,7 @@ put-rows-requires c κs =
     let room = c .before .before in
     let good = room .before .before in
     let long = good-long _ (sym (good .before .bad-line .ensures) ∙ good .if1 .left) in
-    let rows = room-enough _ _ _ (sym (room .before .text-room .ensures) ∙ room .if2 .left) in
+    let rows = room-enough _ _ _ (gave-none _ (room .before .text-room .ensures) (room .if2 .left)) in
     search needs
 
 same-length : tie.Need-same-length

@@ -4,7 +4,8 @@ use Prim.Native.Nat.{_≤_}
 use borrow.Author.Needs.{needs}
 use borrow.Author.Tests.{ltb-false}
 use lib.ListN.{length}
-use Rattle.print.proofs.Ends.{printed-refused, printed-made}
+use Rattle.job.proofs.Refusals.{ended-given}
+use Rattle.print.proofs.Ends.{printed-made}
 use Rattle.entries.proofs.Lists.{list-twelve, list-nine, list-none}
 use Rattle.entries.proofs.Lists.{text-length}
 use Rattle.line.specs.Text.{listText}
@@ -21,7 +22,7 @@ too-long-requires c κs = sym (c .before .is-list .ensures) ∙ c .if1 .taken
 returns : tie.Need-returns
 returns c =
     let list = c .before .before in
-    printed-refused _ _ _ _ (list-nine _ _ (sym (list .before .is-list .ensures) ∙ list .if1 .taken) (sym (c .before .too-long .ensures) ∙ c .if2 .taken)) (λ q. search needs)
+    ended-given _ _ _ 9 (list-nine _ _ (sym (list .before .is-list .ensures) ∙ list .if1 .taken) (sym (c .before .too-long .ensures) ∙ c .if2 .taken)) (λ q. search needs)
 
 slice-aggregate-put-bytes : tie.Need-slice-aggregate-put-bytes
 slice-aggregate-put-bytes c = search needs
@@ -60,7 +61,7 @@ returns-2 c =
     (then (put .put-bytes .ensures) (lines .put-lines .ensures))
 
 returns-3 : tie.Need-returns-3
-returns-3 c = printed-refused _ _ _ _ (list-twelve _ _ (sym (c .before .is-list .ensures) ∙ c .if1 .left)) (λ q. search needs)
+returns-3 c = ended-given _ _ _ 12 (list-twelve _ _ (sym (c .before .is-list .ensures) ∙ c .if1 .left)) (λ q. search needs)
 
 pub list-to-text-spec : {M : Type 1} → statement M
 list-to-text-spec =

@@ -17,7 +17,7 @@ slice-aggregate-print : tie.Need-slice-aggregate-print
 slice-aggregate-print c = search needs
 
 print-requires : tie.Need-print-requires
-print-requires c κs = printable (c .before .before .answer .ensures)
+print-requires c κs = printable _ (c .before .before .answer .ensures)
 
 returns : tie.Need-returns
 returns c = search needs

@@ -17,7 +17,7 @@ slice-aggregate-print : tie.Need-slice-aggregate-print
 slice-aggregate-print c = search needs
 
 print-requires : tie.Need-print-requires
-print-requires c κs = printable (c .before .before .long-answer .ensures)
+print-requires c κs = printable _ (c .before .before .long-answer .ensures)
 
 returns : tie.Need-returns
 returns c = search needs

@@ -1,6 +1,6 @@
 -- `job::are_bits` meets its contract: no byte is above 1. Assumes nothing.
 use borrow.Author.Needs.{needs}
-use Rattle.job.specs.Outcome.{areBits}
+use Rattle.job.specs.Bytes.{areBits}
 use Rattle.job.proofs.are_bits.Statement.{statement}
 use Rattle.job.proofs.are_bits.Tie as tie
 

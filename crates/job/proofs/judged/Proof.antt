@@ -1,19 +1,23 @@
 -- `job::judged` meets its contract. Assumes nothing.
+use mathlib.Core.Option.{orElse}
 use borrow.Author.Needs.{needs}
-use Rattle.job.proofs.Rows.{first-counts}
+use Rattle.job.specs.Refusals.{first}
+use Rattle.job.proofs.Refusals.{counts}
 use Rattle.job.proofs.judged.Statement.{statement}
 use Rattle.job.proofs.judged.Tie as tie
 
 returns : tie.Need-returns
-returns c = first-counts _ _ (c .if1 .taken)
+returns c = counts _ _ (c .if1 .taken)
 
 are-bits-requires : tie.Need-are-bits-requires
 are-bits-requires c κs = search needs
 
 returns-2 : tie.Need-returns-2
+unfolding first orElse
 returns-2 c = rw (c .before .before .if1 .left, ← c .before .are-bits .ensures, c .if2 .taken)
 
 returns-3 : tie.Need-returns-3
+unfolding first orElse
 returns-3 c = rw (c .before .before .if1 .left, ← c .before .are-bits .ensures, c .if2 .left)
 
 pub judged-spec : {M : Type 1} → statement M

@@ -5,7 +5,7 @@ use mathlib.Core.Bool.{_&&_}
 use Prim.Native.Nat.{_≤_, _-_}
 use borrow.Author.Needs.{needs}
 use lib.ListN.{length, drop}
-use Rattle.job.specs.Outcome.{noneAbove}
+use Rattle.job.specs.Bytes.{noneAbove}
 use Rattle.job.proofs.Bits.{one-byte, no-byte}
 use Rattle.job.proofs.none_above.Statement.{statement}
 use Rattle.job.proofs.none_above.Tie as tie

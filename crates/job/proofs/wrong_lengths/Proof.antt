@@ -1,23 +1,24 @@
 -- `job::wrong_lengths` meets its contract: the definition at the branches' tests. Assumes nothing.
 use Rattle.line.proofs.Rules.{cases}
-use Rattle.job.specs.Rows.{rowFault}
+use Rattle.job.specs.Refusals.{first}
+use Rattle.job.specs.Rows.{rowRules}
 use Rattle.job.proofs.wrong_lengths.Statement.{statement}
 use Rattle.job.proofs.wrong_lengths.Tie as tie
 
 returns : tie.Need-returns
-unfolding rowFault
+unfolding rowRules first
 returns c = search cases
 
 returns-2 : tie.Need-returns-2
-unfolding rowFault
+unfolding rowRules first
 returns-2 c = search cases
 
 returns-3 : tie.Need-returns-3
-unfolding rowFault
+unfolding rowRules first
 returns-3 c = search cases
 
 returns-4 : tie.Need-returns-4
-unfolding rowFault
+unfolding rowRules first
 returns-4 c = search cases
 
 pub wrong-lengths-spec : {M : Type 1} → statement M

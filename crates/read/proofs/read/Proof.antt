@@ -1,6 +1,6 @@
 -- `read::read` meets its contract: refused by the rows, refused for want of room, or scanned into the buffer. Assumes nothing.
-use mathlib.Core.Path.{sym, _∙_}
 use borrow.Author.Needs.{needs}
+use Rattle.job.proofs.Refusals.{gave-none}
 use Rattle.read.proofs.Ends.{rows-through, rows-refused, room-refused, list-made}
 use Rattle.read.proofs.read.Statement.{statement}
 use Rattle.read.proofs.read.Tie as tie
@@ -12,12 +12,12 @@ returns : tie.Need-returns
 returns c = rows-refused _ _ _ _ _ (c .before .rows-refusal .ensures) (c .if1 .taken)
 
 has-room-requires : tie.Need-has-room-requires
-has-room-requires c κs = rows-through _ _ _ (sym (c .before .before .rows-refusal .ensures) ∙ c .before .if1 .left)
+has-room-requires c κs = rows-through _ _ _ (gave-none _ (c .before .before .rows-refusal .ensures) (c .before .if1 .left))
 
 scan-requires : tie.Need-scan-requires
 scan-requires c κs =
     let good = c .before .before .before .before .before .before in
-    rows-through _ _ _ (sym (good .before .rows-refusal .ensures) ∙ good .if1 .left)
+    rows-through _ _ _ (gave-none _ (good .before .rows-refusal .ensures) (good .if1 .left))
 
 same-length : tie.Need-same-length
 same-length c = search needs
@@ -26,7 +26,7 @@ returns-2 : tie.Need-returns-2
 returns-2 c =
     let room = c .before .before .before .before .before .before .before in
     let good = room .before .before in
-    list-made _ _ _ _ (sym (good .before .rows-refusal .ensures) ∙ good .if1 .left) _ (room .has-room .ensures .0)
+    list-made _ _ _ _ (gave-none _ (good .before .rows-refusal .ensures) (good .if1 .left)) _ (room .has-room .ensures .0)
     (c .before .before .before .before .if2 .taken) _ _ _ (room .has-room .ensures .1) (c .before .before .scan .ensures .0) (c .before .before .scan .ensures .1)
 
 same-length-2 : tie.Need-same-length-2
@@ -36,7 +36,7 @@ returns-3 : tie.Need-returns-3
 returns-3 c =
     let room = c .before .before .before in
     let good = room .before .before in
-    room-refused _ _ _ _ (sym (good .before .rows-refusal .ensures) ∙ good .if1 .left) _ (room .has-room .ensures .0) (c .if2 .left) _ (room .has-room .ensures .1)
+    room-refused _ _ _ _ (gave-none _ (good .before .rows-refusal .ensures) (good .if1 .left)) _ (room .has-room .ensures .0) (c .if2 .left) _ (room .has-room .ensures .1)
 
 pub read-spec : {M : Type 1} → statement M
 read-spec =

@@ -1,7 +1,8 @@
 -- `run::refusal` meets its contract: each answer is the definition at the branch's tests. Assumes nothing.
 use borrow.Author.Needs.{needs}
 use Rattle.line.proofs.Rules.{cases}
-use Rattle.run.specs.Run.{refusal}
+use Rattle.job.specs.Refusals.{first}
+use Rattle.run.specs.Run.{refusals}
 use Rattle.run.proofs.refusal.Statement.{statement}
 use Rattle.run.proofs.refusal.Tie as tie
 
@@ -18,23 +19,23 @@ wrong-row-requires : tie.Need-wrong-row-requires
 wrong-row-requires c κs = search needs
 
 returns : tie.Need-returns
-unfolding refusal
+unfolding refusals first
 returns c = search cases
 
 returns-2 : tie.Need-returns-2
-unfolding refusal
+unfolding refusals first
 returns-2 c = search cases
 
 returns-3 : tie.Need-returns-3
-unfolding refusal
+unfolding refusals first
 returns-3 c = search cases
 
 returns-4 : tie.Need-returns-4
-unfolding refusal
+unfolding refusals first
 returns-4 c = rw (← c .before .before .none-above .ensures, c .before .if4 .taken, c .wrong-row .ensures) (search cases)
 
 returns-5 : tie.Need-returns-5
-unfolding refusal
+unfolding refusals first
 returns-5 c = rw (← c .before .none-above .ensures, c .if4 .left) (search cases)
 
 pub refusal-spec : {M : Type 1} → statement M

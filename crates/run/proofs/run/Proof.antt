@@ -1,6 +1,6 @@
 -- `run::run` meets its contract: refused with every lent byte as it was, or the row answered. Assumes nothing.
-use mathlib.Core.Path.{sym, _∙_}
 use borrow.Author.Needs.{needs}
+use Rattle.job.proofs.Refusals.{gave-none}
 use Rattle.run.proofs.Ends.{held, same-rows, ran-refused, ran-made}
 use Rattle.run.proofs.run.Statement.{statement}
 use Rattle.run.proofs.run.Tie as tie
@@ -15,7 +15,7 @@ answer-row-requires : tie.Need-answer-row-requires
 answer-row-requires c κs =
     let through = c .before .before in
     let a = through .before .before .before .before .before .before .args in
-    let e = sym (through .before .refusal .ensures) ∙ through .if1 .left in (
+    let e = gave-none _ (through .before .refusal .ensures) (through .if1 .left) in (
       held (a .slaves) (a .registers .now) (a .rights .now) (a .cdm .now) (a .cds .now) e,
       same-rows (a .slaves) (a .registers .now) (a .rights .now) (a .cdm .now) (a .cds .now) e,
     )
@@ -30,7 +30,7 @@ returns-2 : tie.Need-returns-2
 returns-2 c =
     let row = c .before .before .before .before .answer-row in
     let through = c .before .before .before .before .before .before .before in
-    ran-made _ _ _ _ _ _ _ (sym (through .before .refusal .ensures) ∙ through .if1 .left) (row .ensures)
+    ran-made _ _ _ _ _ _ _ (gave-none _ (through .before .refusal .ensures) (through .if1 .left)) (row .ensures)
     (row .kept .1 .1 .0) (row .kept .1 .1 .1 .1 .0)
 
 pub run-spec : {M : Type 1} → statement M
