@@ -7,16 +7,14 @@ ghost use Rattle.job.specs.Refusals.{refusal, detail, first};
 ghost use Rattle.job.specs.Rows.{wrongRows};
 ghost use Rattle.print.specs.Laid.{Laid};
 ghost use Rattle.answer.specs.Answer.{fields, values, refusedText, rowsAnswer, longAnswer, Whole, Answered};
+use job::COLUMN_LIMIT;
 use job::Detail;
 use job::Outcome;
-
-// Columns: "A row has 0 to 4,096 columns."
-const COLUMN_LIMIT: usize = 4096;
 
 // Entries: "Six bytes", "At most one entry falls in a column".
 const ENTRY: usize = 6;
 
-const LIST_LIMIT: usize = 24576;
+const LIST_LIMIT: usize = ENTRY * COLUMN_LIMIT;
 
 // More than the line of a refusal: the word, its number, values of at most twenty digits beside it, their TABs and LF.
 const REFUSAL_LIMIT: usize = 64;

@@ -10,11 +10,9 @@ ghost use Rattle.job.specs.Bytes.{areBits};
 ghost use Rattle.job.specs.Refusals.{first, given};
 ghost use Rattle.print.specs.Laid.{Laid};
 ghost use Rattle.carry.specs.Carry.{textRoom, RowsPrinted, RowsTaken};
+use job::COLUMN_LIMIT;
 use job::Detail;
 use job::Outcome;
-
-// Columns: "A row has 0 to 4,096 columns."
-const COLUMN_LIMIT: usize = 4096;
 
 // Text: "header `cdm` TAB `cds` LF, then digit TAB digit LF for each column".
 const HEADER: usize = 8;

@@ -1,4 +1,4 @@
-// What the four jobs share: how a job ends, and the tests of lent bytes.
+// What the four jobs share: the longest row, how a job ends, and the tests of lent bytes.
 ghost use mathlib.Core.Path.{_≡_};
 ghost use mathlib.Core.Bool.{true, not, _&&_};
 ghost use mathlib.Core.List.{_∷_, []};
@@ -9,7 +9,7 @@ ghost use Rattle.job.specs.Bytes.{noneAbove, areBits};
 ghost use Rattle.job.specs.Rows.{rowRules, wrongRows, wrongRow};
 
 // Columns: "A row has 0 to 4,096 columns."
-const COLUMN_LIMIT: usize = 4096;
+pub const COLUMN_LIMIT: usize = 4096;
 
 pub enum Outcome {
     // So many columns, bytes or entries were made.
