@@ -9,6 +9,7 @@ use Rattle.line.specs.Limits.{restZeros}
 use Rattle.line.specs.Rest.{Timed, power, rest, frame, timer, judge}
 use Rattle.machine.specs.Zeros.{zerosAfter, timed, judgedAt, endedAt}
 
+-- By line's timer ..
 module _ (z : ℕ) {z′ : ℕ} where
   pub timer-on : (m : Bool) → z′ ≡ zerosAfter z m → z′ < restZeros → timer z m ≡ some z′
   unfolding timer zerosAfter
@@ -20,6 +21,7 @@ module _ (z : ℕ) {z′ : ℕ} where
   timer-out true e h = absurd (omega arith)
   timer-out false e h = rw (le-ltb (z + 1) restZeros (omega arith))
 
+-- .. and so by its judge, for any machine.
 module _ {P : Type 0} (begun : P) (z : ℕ) {z′ : ℕ} where
   pub judge-on : (s : Timed P) (m : Bool) → z′ ≡ zerosAfter z m → z′ < restZeros → judge begun (timed z s) m ≡ judgedAt begun (timed z′ s) m
   unfolding judge
