@@ -9,7 +9,7 @@ use lib.Dec.{eqb}
 use lib.ListN.{length, length-append}
 use Rattle.line.specs.Limits.{columnLimit}
 use Rattle.line.specs.Text.{rowsHeader, orElse, firstBad, badLine, cdmOf}
-use Rattle.line.proofs.Every.{tested}
+use Rattle.laws.proofs.Every.{tested}
 use Rattle.line.proofs.Text.{first-piece}
 use Rattle.carry.proofs.Ends.{columns-in}
 use Rattle.answer.specs.Answer.{answerText, longAnswer}

@@ -11,7 +11,7 @@ use lib.ListN.{length}
 use Rattle.line.specs.Limits.{columnLimit}
 use Rattle.line.specs.Entries.{listBytes}
 use Rattle.line.specs.Text.{rowsText, badLine, cdmOf, cdsOf, listText}
-use Rattle.line.proofs.Every.{tested}
+use Rattle.laws.proofs.Every.{tested}
 use Rattle.line.proofs.Text.{Back, there-and-back}
 use Rattle.job.specs.Refusals.{alone, refusal, first}
 use Rattle.job.specs.Rows.{wrongRows}

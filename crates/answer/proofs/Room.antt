@@ -9,7 +9,7 @@ use lib.ListN.{length, length-append}
 use Rattle.line.specs.Limits.{columnLimit}
 use Rattle.line.specs.Entries.{Entry, bytesOf, listBytes}
 use Rattle.line.specs.Text.{badLine, cdmOf, cdsOf, entryLines}
-use Rattle.line.proofs.Every.{Every, tested}
+use Rattle.laws.proofs.Every.{Every, tested}
 use Rattle.line.proofs.Codec.{read-back}
 use Rattle.line.proofs.Text.{bad-line-low}
 use Rattle.job.specs.Refusals.{alone, on-line, refusal, first}

@@ -11,7 +11,7 @@ use lib.ListN.{length, take, drop, getD}
 use Rattle.line.specs.Limits.{columnLimit}
 use Rattle.line.specs.Entries.{listBytes}
 use Rattle.line.specs.Text.{badLine, rowIn, cdmOf, cdsOf, isList, listText}
-use Rattle.line.proofs.Every.{tested}
+use Rattle.laws.proofs.Every.{tested}
 use Rattle.line.proofs.Codec.{bytes-list}
 use Rattle.job.specs.Bytes.{noneAbove, areBits}
 use Rattle.job.specs.Refusals.{alone, on-line, refusal, Rule, when, found, first, detail, lent, left}

@@ -6,7 +6,7 @@ use native.Mathlib.Omega.{arith}
 use borrow.Author.Tests.{lt-ltb, le-ltb, ltb-true, ltb-false}
 use lib.Dec.{ltb}
 use Rattle.line.specs.Limits.{slaveLimit, idCount}
-use Rattle.line.proofs.Every.{tested}
+use Rattle.laws.proofs.Every.{tested}
 use Rattle.job.specs.Refusals.{alone, on-line, refusal, Ending, made, refused, told}
 use Rattle.job.specs.declared.Outcome.{Outcome}
 use Rattle.channels.specs.Channel.{channelOf}

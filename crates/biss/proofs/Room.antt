@@ -12,7 +12,7 @@ use Rattle.line.specs.Limits.{columnLimit}
 use Rattle.line.specs.Building.{Request}
 use Rattle.line.specs.Entries.{listBytes}
 use Rattle.line.specs.Text.{rowsText, badLine, cdmOf, listText}
-use Rattle.line.proofs.Every.{IfAny}
+use Rattle.laws.proofs.Every.{IfAny}
 use Rattle.line.proofs.Text.{bad-line-low}
 use Rattle.job.specs.Refusals.{Refusal, Rule, when, found, first, refused, ending, told, Lent, Ended}
 use Rattle.job.specs.Rows.{rowRules, wrongRow, wrongRows}

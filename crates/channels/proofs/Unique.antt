@@ -1,7 +1,7 @@
 -- The promise of channel_of has one answer: two results that meet it are equal. Assumes nothing.
 use mathlib.Core.Path.{_≡_}
 use Prim.Native.Nat.{ℕ}
-use Rattle.line.proofs.Unique.{one-answer}
+use Rattle.laws.proofs.Unique.{one-answer}
 use Rattle.channels.specs.Channel.{channelOf}
 use Rattle.channels.specs.declared.SlaveId.{SlaveId}
 use Rattle.channels.specs.declared.Channel.{Channel}

@@ -12,7 +12,7 @@ use lib.Pow.{high, low, split}
 use Rattle.line.specs.Bits.{bit}
 use Rattle.line.specs.Division.{headerBits, checkWidth, polynomial, feed, divide, remainder}
 use Rattle.line.proofs.Division.{divide-low, divide-append}
-use Rattle.line.proofs.Table.{below}
+use Rattle.laws.proofs.Table.{below}
 
 -- Four bits into a remainder: what remains then stands at the place of both together, added bit by bit.
 stands : (r b : ℕ) → Bool

@@ -4,7 +4,7 @@ use mathlib.Core.Bool.{Bool}
 use Prim.Native.Nat.{ℕ}
 use Rattle.line.specs.Bits.{push}
 use Rattle.line.specs.Division.{headerBits, dataBits, check, fits}
-use Rattle.line.proofs.Unique.{one-answer}
+use Rattle.laws.proofs.Unique.{one-answer}
 
 header-check-unique : (word a b : ℕ) → a ≡ check headerBits word → b ≡ check headerBits word → a ≡ b
 header-check-unique word a b p q = one-answer p q

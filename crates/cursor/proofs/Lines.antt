@@ -10,7 +10,7 @@ use borrow.Author.Tests.{eq-eqb, ne-eqb}
 use lib.ListN.{length, drop, getD, length-drop, length-map, drop-of-length-le}
 use lib.Seq.{drop-cons, drop-drop}
 use Rattle.line.specs.Text.{exactly, columnForm, begins, fault, firstBad, badLine, headerForm}
-use Rattle.line.proofs.Every.{tested}
+use Rattle.laws.proofs.Every.{tested}
 use Rattle.line.proofs.Text.{four, begins-long}
 
 -- The form of a line of given bytes, from its byte j on: decided by that byte, or by those behind it, or by none.

@@ -6,7 +6,7 @@ use Prim.Native.Nat.{ℕ, _^_, min}
 use lib.ListN.{drop}
 use denote.Ref.{RefT}
 use Rattle.line.specs.Text.{Form, begins, firstBad, badLine}
-use Rattle.line.proofs.Unique.{one-answer}
+use Rattle.laws.proofs.Unique.{one-answer}
 use Rattle.cursor.specs.declared.Cursor.{Cursor}
 
 new-unique : (text : RefT (List ℕ)) (a b : Cursor) → (a .text ≡ text) × (a .at ≡ 0) → (b .text ≡ text) × (b .at ≡ 0)

@@ -14,7 +14,7 @@ use Rattle.line.specs.Division.{dataBits}
 use Rattle.line.specs.Memory.{Memory, allows, holds, stored}
 use Rattle.line.specs.Entries.{Kind, Entry}
 use Rattle.line.specs.Replay.{storedAt, is, put, replay}
-use Rattle.line.proofs.Every.{tested}
+use Rattle.laws.proofs.Every.{tested}
 use Rattle.line.proofs.Memories.{Bytes}
 use Rattle.line.proofs.Twins.{Like, Alike}
 use Rattle.job.proofs.Bits.{byte-at}

@@ -12,7 +12,7 @@ use Rattle.line.specs.Entries.{Entry, bytesOf, listBytes}
 use Rattle.line.specs.Limits.{restZeros}
 use Rattle.line.specs.Reader.{columns}
 use Rattle.line.specs.Runs.{FirstRun, NoRun, fromColumn}
-use Rattle.line.proofs.Every.{Every}
+use Rattle.laws.proofs.Every.{Every}
 use Rattle.line.proofs.Codec.{read-back}
 use Rattle.line.proofs.Late.{masters, masters-columns}
 use Rattle.line.proofs.Honest.{Sound}

@@ -11,7 +11,7 @@ use lib.ListN.{length, length-append, length-drop, drop, getD}
 use lib.Seq.{drop-cons}
 use Rattle.line.specs.Entries.{Kind, kinds, numbered, entryOf, fromBytes}
 use Rattle.line.specs.Text.{entryLine, lineOf, entryLines, listText, isEntry, isList}
-use Rattle.line.proofs.Every.{tested}
+use Rattle.laws.proofs.Every.{tested}
 use Rattle.line.proofs.Text.{both, four}
 use Rattle.job.specs.Refusals.{first, given}
 use Rattle.names.specs.Names as Names

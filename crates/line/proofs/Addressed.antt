@@ -12,7 +12,7 @@ use Rattle.line.specs.Rest.{Timed, frame, timer, judge}
 use Rattle.line.specs.Memory.{Memory}
 use Rattle.line.specs.Slave.{Phase, deaf, turn, speak, step}
 use Rattle.line.specs.Chain.{pass, column}
-use Rattle.line.proofs.Every.{tested}
+use Rattle.laws.proofs.Every.{tested}
 use Rattle.line.proofs.Memories.{outside}
 use Rattle.line.proofs.Dress.{dress, passTo, pass-dress, column-dress}
 

@@ -12,7 +12,7 @@ use Rattle.line.specs.Card.{Line, lockRow, blank, found, card}
 use Rattle.line.specs.Slave
 use Rattle.line.specs.Chain
 use Rattle.line.specs.Reader
-use Rattle.line.proofs.Table.{tabulate}
+use Rattle.laws.proofs.Table.{tabulate}
 
 pub card-holds : map (λ l. found (l .case)) card ≡ map (λ l. l .value ∷ []) card
 unfolding found check remainder divide feed bit push judge timer Slave.lock Slave.speak Slave.step Chain.pass Chain.answers Chain.switchedOn Chain.answersFrom Reader.seen Reader.locked Reader.look Reader.step Reader.columns Reader.entries Reader.listFrom

@@ -24,7 +24,7 @@ use Rattle.line.specs.Text.{digitsIn, decimal, field, entryLine, entryLi
 use Rattle.line.specs.Slave
 use Rattle.line.specs.Chain
 use Rattle.line.specs.Reader
-use Rattle.line.proofs.Table.{tabulate}
+use Rattle.laws.proofs.Table.{tabulate}
 use Rattle.line.proofs.Drawn.{holding, one, columnsOf, drawn}
 
 flip : ℕ → List Bool → List Bool

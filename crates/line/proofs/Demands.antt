@@ -22,7 +22,7 @@ use Rattle.line.specs.Replay.{replay, Shows}
 use Rattle.line.specs.Understood.{listed, Allowed, lockShown, commandShown, bytesShown, standing, closing}
 use Rattle.line.specs.Runs.{Zeros, FirstRun, NoRun, fromColumn}
 use Rattle.line.proofs.Rest.{fourteen}
-use Rattle.line.proofs.Every.{Every}
+use Rattle.laws.proofs.Every.{Every}
 use Rattle.line.proofs.Memories.{Bytes}
 use Rattle.line.proofs.Late.{masters, masters-drop, rests, from-run, from-first, none-later, sleeps}
 use Rattle.line.proofs.Rows.{soon-after, all-soon}

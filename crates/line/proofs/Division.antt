@@ -13,7 +13,7 @@ use lib.Dec.{ltb, eqb}
 use lib.Pow.{shr-shr, high, low, field, mod-mod-pow}
 use Rattle.line.specs.Bits.{bit, bitOf}
 use Rattle.line.specs.Division.{feed, divide, checkWidth, polynomial, remainder, check, word, fits}
-use Rattle.line.proofs.Table.{below}
+use Rattle.laws.proofs.Table.{below}
 
 -- A bit above the lowest m is a bit of what stands above them.
 pub bit-above : (n m v : ℕ) {c : ℕ} → c < 2 ^ m → bit (n + m) (v * 2 ^ m + c) ≡ bit n v

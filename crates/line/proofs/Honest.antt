@@ -16,8 +16,8 @@ use Rattle.line.specs.Slave.{Slave}
 use Rattle.line.specs.Chain.{column, memories}
 use Rattle.line.specs.Account.{Phase, deaf, locks, head, askR, askW, byteS, carries, askP, Told, slaveAt, moreAt, headed, asked, tell, begun, step, along}
 use Rattle.line.specs.Replay.{is}
-use Rattle.line.proofs.Every.{Every, IfAny, either, every-note}
-use Rattle.line.proofs.Machine.{says-so}
+use Rattle.laws.proofs.Every.{Every, IfAny, either}
+use Rattle.line.proofs.Machine.{says-so, every-note}
 
 -- The kinds that only a damaged row shows.
 abbrev pub faults : List Kind

@@ -19,8 +19,8 @@ use Rattle.line.specs.Entries.{Entry, note}
 use Rattle.line.specs.Reader.{Locks, ones, upto, mixed, shown, Phase, deaf, locks, head, askR, askW, byteS, reads, writes, askP, Look, locked, headed, asked, look, Column, col, columns, step, begun, entries, after, listFrom}
 use Rattle.line.specs.Runs.{Zeros, RunAt, FirstRun, NoRun, fromColumn}
 use Rattle.line.proofs.Rest.{Soon, soon-rest, fourteen}
-use Rattle.line.proofs.Machine.{soon-step, says-so}
-use Rattle.line.proofs.Every.{Every, IfAny, either, tested, every-note}
+use Rattle.line.proofs.Machine.{soon-step, says-so, every-note}
+use Rattle.laws.proofs.Every.{Every, IfAny, either, tested}
 
 -- The CDM row of the columns.
 abbrev pub masters : List Column → List Bool

@@ -1,5 +1,4 @@
--- What is proved of the definitions: first what is computed, then the laws, each module named for what it holds; last what the
--- proofs of every crate use.
+-- What is proved of the definitions: first what is computed, then the laws, each module named for what it holds.
 pub mod Card
 pub mod Drawn
 pub mod Cases
@@ -9,7 +8,6 @@ pub mod Codec
 pub mod Text
 pub mod Printed
 pub mod Channels
-pub mod Every
 pub mod Rest
 pub mod Machine
 pub mod Dress
@@ -26,6 +24,3 @@ pub mod Understood
 pub mod Twins
 pub mod Honest
 pub mod Demands
-pub mod Rules
-pub mod Table
-pub mod Unique

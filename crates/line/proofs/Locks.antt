@@ -15,7 +15,7 @@ use Rattle.line.specs.Rest.{frame, timer, judge}
 use Rattle.line.specs.Memory.{Memory}
 use Rattle.line.specs.Slave.{locks, lock, lockNext, speak, step}
 use Rattle.line.specs.Chain.{column}
-use Rattle.line.proofs.Every.{tested}
+use Rattle.laws.proofs.Every.{tested}
 use Rattle.line.proofs.Dress.{dress, passTo, column-dress}
 
 -- The number that the slave at place i holds once j numbers are given out.

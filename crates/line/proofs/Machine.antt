@@ -2,10 +2,13 @@
 -- and what they keep it keeps. Assumes nothing.
 use mathlib.Core.Path.{_≡_, refl}
 use mathlib.Core.Bool.{Bool, true, false}
+use mathlib.Core.List.{List}
+use mathlib.Core.Option.{Option, none, some}
 use Prim.Native.Nat.{ℕ, suc}
 use Rattle.line.specs.Rest.{Timed, power, rest, frame, Judged, still, ends, meant, timer, judge}
 use Rattle.line.specs.Machine.{Turn, stepped}
-use Rattle.line.proofs.Every.{looked-up}
+use Rattle.line.specs.Entries.{Entry, note}
+use Rattle.laws.proofs.Every.{Every, IfAny, looked-up}
 use Rattle.line.proofs.Rest.{moved, Soon, soon-moved}
 
 module _ {P S : Type 0} (begun : P) (silent ended : S) (turn : P → Turn P S) where
@@ -21,9 +24,9 @@ module _ {P S : Type 0} (begun : P) (silent ended : S) (turn : P → Turn P S) w
 -- What holds of all that its phases say, holds of all that it says.
 pub says-so : {P S : Type 0} (Q : S → Type 0) (turn : P → Turn P S) {silent ended : S} → Q silent → Q ended → ((p : P) → Q (turn p .says))
     → (j : Judged P) → Q (stepped silent ended turn j .says)
-says-so Q turn none end each (still s) = none
-says-so Q turn none end each ends = end
-says-so Q turn none end each (meant z p) = each p
+says-so Q turn quiet end each (still s) = quiet
+says-so Q turn quiet end each ends = end
+says-so Q turn quiet end each (meant z p) = each p
 
 module _ {P : Type 0} (H : P → Type 0) where
   -- H holds of its phase, where it is in a frame.
@@ -47,6 +50,12 @@ module _ {P : Type 0} (H : P → Type 0) where
     pub keeps : {S : Type 0} (Q : S → Type 0) {silent ended : S} {turn : P → Turn P S} → Q silent → Q ended
         → ((p : P) → H p → H (turn p .next) × Q (turn p .says)) → (s : Timed P) (m : Bool) → At s
         → At (stepped silent ended turn (judge begun s m) .state) × Q (stepped silent ended turn (judge begun s m) .says)
-    keeps Q {silent} {ended} {turn} none end each =
+    keeps Q {silent} {ended} {turn} quiet end each =
         judged (λ j. At (stepped silent ended turn j .state) × Q (stepped silent ended turn j .says))
-        (λ s h. (h, none)) (tt, end) (λ z p h. each p h)
+        (λ s h. (h, quiet)) (tt, end) (λ z p h. each p h)
+
+module _ (Q : Entry → Type 0) where
+  -- A column's entry, if it has one, before the others.
+  pub every-note : (o : Option Entry) (es : List Entry) → IfAny Q o → Every Q es → Every Q (note o es)
+  every-note none es q qs = qs
+  every-note (some e) es q qs = (q, qs)

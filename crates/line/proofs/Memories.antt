@@ -13,7 +13,7 @@ use Rattle.line.specs.Division.{dataBits}
 use Rattle.line.specs.Memory.{Memory, allows, holds, stored}
 use Rattle.line.specs.Slave.{more}
 use Rattle.line.specs.Replay.{storedAt}
-use Rattle.line.proofs.Every.{Every}
+use Rattle.laws.proofs.Every.{Every}
 
 -- Every register of every memory is a byte.
 abbrev pub Bytes : List Memory → Type 0

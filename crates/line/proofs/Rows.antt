@@ -10,7 +10,7 @@ use Rattle.line.specs.Slave.{Slave, speak, begun, step}
 use Rattle.line.specs.Chain.{pass, column, answers, after}
 use Rattle.line.proofs.Rest.{Soon, soon-rest, fourteen}
 use Rattle.line.proofs.Machine.{soon-step}
-use Rattle.line.proofs.Every.{Every}
+use Rattle.laws.proofs.Every.{Every}
 
 -- One row after another: the chain goes on from the slaves that the first leaves.
 pub answers-append : (ss : List Slave) (xs ys : List Bool) → answers ss (xs ++ ys) ≡ answers ss xs ++ answers (after ss xs) ys

@@ -25,7 +25,7 @@ use Rattle.line.specs.Account
 use Rattle.line.specs.Replay.{is, put, whenRead}
 use Rattle.line.proofs.Words.{push-bit, word-lt, byte-word, byte-lt, LowId, header-low}
 use Rattle.line.proofs.Division.{accepted}
-use Rattle.line.proofs.Every.{IfAny, tested, looked-up}
+use Rattle.laws.proofs.Every.{IfAny, tested, looked-up}
 use Rattle.line.proofs.Memories.{Bytes, inside, outside, set-same, at-set, every-at, stored-set, bytes-stored, goes-on}
 use Rattle.line.proofs.Dress.{dress, passTo}
 use Rattle.line.proofs.Locks.{number, arrives, lock-column}

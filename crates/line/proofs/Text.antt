@@ -10,7 +10,7 @@ use lib.Dec.{eqb}
 use lib.ListN.{length, drop, getD, length-drop}
 use lib.Seq.{drop-cons, drop-append-le}
 use Rattle.line.specs.Text.{tab, feed, digit, rowsHeader, columnLine, columnLines, rowsText, Form, exactly, bit, has, headerForm, columnForm, begins, fault, orElse, firstBad, badLine, rowIn, cdmOf, cdsOf}
-use Rattle.line.proofs.Every.{Every, either, tested}
+use Rattle.laws.proofs.Every.{Every, either, tested}
 
 -- Columns: "A row holds one byte per column, 0 or 1."
 abbrev pub Bits : List ℕ → Type 0

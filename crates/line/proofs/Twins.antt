@@ -18,7 +18,7 @@ use Rattle.line.specs.Header.{Header, wrong, access, command, header}
 use Rattle.line.specs.Memory.{Memory, allows, holds, stored}
 use Rattle.line.specs.Slave.{Phase, deaf, locks, head, askR, askW, byteS, sends, takes, askP, Turn, turn, called, more, speak, Slave, slave, Step, stepped, step, leaves}
 use Rattle.line.specs.Chain.{Passed, pass, column, answers, switchedOn}
-use Rattle.line.proofs.Every.{either, Matched}
+use Rattle.laws.proofs.Every.{either, Matched}
 use Rattle.line.proofs.Memories.{goes-on}
 use Rattle.line.proofs.Machine.{At, judged}
 

@@ -24,7 +24,7 @@ use Rattle.line.specs.Replay.{put}
 use Rattle.line.specs.Understood.{Allowed, lockShown, commandShown, byteColumn, byteShown, bytesShown, standing, closing}
 use Rattle.line.proofs.Words.{push-bit, word-lt, byte-word, header-access, header-command}
 use Rattle.line.proofs.Division.{accepted}
-use Rattle.line.proofs.Every.{Every, tested}
+use Rattle.laws.proofs.Every.{Every, tested}
 use Rattle.line.proofs.Memories.{Bytes, at-set, stored-set}
 use Rattle.line.proofs.Sim.{beq-not, kept}
 use Rattle.line.proofs.Zeros.{asking, carrying, none-carried, frame-asking, calm, header-calm, access-calm}

@@ -13,7 +13,7 @@ use Rattle.line.specs.Entries.{Entry, note}
 use Rattle.line.specs.Slave
 use Rattle.line.specs.Reader
 use Rattle.line.specs.Account.{Phase, Told, Step, tell, step, along, account}
-use Rattle.line.proofs.Every.{tested}
+use Rattle.laws.proofs.Every.{tested}
 use Rattle.line.proofs.Memories.{Bytes}
 use Rattle.line.proofs.Dress.{dress, memories-dress, switchedOn-dress}
 use Rattle.line.proofs.Sim.{Together, waiting, kept, Next}

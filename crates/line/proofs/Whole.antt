@@ -17,7 +17,7 @@ use Rattle.line.specs.Chain
 use Rattle.line.specs.Reader
 use Rattle.line.specs.Account
 use Rattle.line.specs.Replay.{is, put, replay, whenRead, Shows}
-use Rattle.line.proofs.Every.{IfAny, looked-up}
+use Rattle.laws.proofs.Every.{IfAny, looked-up}
 use Rattle.line.proofs.Memories.{Bytes}
 use Rattle.line.proofs.Dress.{dress, stepTo, column-dress, memories-dress, switchedOn-dress}
 use Rattle.line.proofs.Locks.{number}

@@ -14,7 +14,7 @@ use Rattle.line.specs.Bits.{num, bitOf, bit, bits, push}
 use Rattle.line.specs.Division.{headerBits, dataBits, checkWidth, topBit, check, word, fits, byteOf}
 use Rattle.line.specs.Header.{Header, wrong, access, command, header, accessWord, commandWord}
 use Rattle.line.proofs.Division.{bit-above, bit-same, under, check-lt, accepted}
-use Rattle.line.proofs.Every.{either}
+use Rattle.laws.proofs.Every.{either}
 
 num-lt : (b : Bool) → num b < 2
 num-lt true = omega arith

@@ -15,8 +15,8 @@ use Rattle.line.specs.Division.{headerBits, dataBits, checkWidth, topBit
 use Rattle.line.specs.Header.{accessWord}
 use Rattle.line.specs.Building.{Request, opening, readBytes, writeBytes, frameOf}
 use Rattle.line.specs.Building
-use Rattle.line.proofs.Table.{below}
-use Rattle.line.proofs.Every.{tested}
+use Rattle.laws.proofs.Table.{below}
+use Rattle.laws.proofs.Every.{tested}
 use Rattle.line.proofs.Division.{check-lt}
 use Rattle.line.proofs.Words.{bits-append, length-bits}
 

@@ -2,7 +2,7 @@
 use mathlib.Core.Path.{_≡_}
 use mathlib.Core.Bool.{Bool}
 use Prim.Native.Nat.{ℕ}
-use Rattle.line.proofs.Unique.{one-answer}
+use Rattle.laws.proofs.Unique.{one-answer}
 use Rattle.machine.specs.Zeros.{zerosAfter}
 
 counted-unique : (zeros : ℕ) (master : Bool) (a b : ℕ) → a ≡ zerosAfter zeros master → b ≡ zerosAfter zeros master → a ≡ b

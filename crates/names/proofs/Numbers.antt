@@ -11,8 +11,8 @@ use lib.ListN.{length, getD, take, drop, replicate}
 use Rattle.line.specs.Bits.{num}
 use Rattle.line.specs.Text.{digit}
 use Rattle.line.specs.Entries.{Kind, number, kinds, numbered}
-use Rattle.line.proofs.Every.{tested}
-use Rattle.line.proofs.Table.{tabulate, tabulated, below}
+use Rattle.laws.proofs.Every.{tested}
+use Rattle.laws.proofs.Table.{tabulate, tabulated, below}
 use Rattle.line.proofs.Text.{both}
 use Rattle.names.specs.Names.{isKind, kindLine, nameOf, names}
 

@@ -10,7 +10,7 @@ use borrow.Author.Tests.{leb-true, ltb-true, ltb-false, eq-eqb, ne-eqb}
 use lib.Dec.{ltb}
 use lib.ListN.{length, drop, getD, drop-of-length-le}
 use lib.Seq.{drop-cons}
-use Rattle.line.proofs.Every.{tested}
+use Rattle.laws.proofs.Every.{tested}
 use Rattle.line.proofs.Text.{both}
 use Rattle.opening.specs.Opening.{farthest, isDigit, askedFrom, isHelp, askedBy}
 use Rattle.opening.specs.declared.Asked.the-variants.{Column, Help, Unknown}

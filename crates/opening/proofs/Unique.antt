@@ -2,7 +2,7 @@
 use mathlib.Core.Path.{_≡_}
 use mathlib.Core.List.{List}
 use Prim.Native.Nat.{ℕ}
-use Rattle.line.proofs.Unique.{one-answer}
+use Rattle.laws.proofs.Unique.{one-answer}
 use Rattle.opening.specs.Opening.{askedBy}
 use Rattle.opening.specs.declared.Asked.{Asked}
 

@@ -9,7 +9,7 @@ use borrow.Author.Tests.{lt-ltb, le-ltb, ltb-true, ltb-false}
 use lib.Dec.{ltb}
 use lib.ListN.{length, length-append}
 use Rattle.line.specs.Text.{digit, digitsIn, decimal}
-use Rattle.line.proofs.Every.{tested}
+use Rattle.laws.proofs.Every.{tested}
 
 -- Fuel beyond the number changes nothing.
 enough : (fuel more n : ℕ) → n < fuel → n < more → digitsIn fuel n ≡ digitsIn more n

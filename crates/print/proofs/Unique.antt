@@ -3,7 +3,7 @@
 use mathlib.Core.Path.{_≡_}
 use mathlib.Core.List.{List}
 use Prim.Native.Nat.{ℕ}
-use Rattle.line.proofs.Unique.{one-answer}
+use Rattle.laws.proofs.Unique.{one-answer}
 use Rattle.job.specs.Refusals.{Rule}
 use Rattle.job.specs.declared.Outcome.{Outcome}
 use Rattle.job.proofs.Refusals.{ended-unique}

@@ -4,7 +4,7 @@ use mathlib.Core.Path.{_≡_, refl, sym, ap, _∙_}
 use mathlib.Core.Option.{Option, none, some, Option·none-ne-some}
 use Prim.Native.Nat.{ℕ}
 use Rattle.line.specs.Entries.{Kind, Entry, number, kinds, numbered, bytesOf}
-use Rattle.line.proofs.Every.{IfAny}
+use Rattle.laws.proofs.Every.{IfAny}
 use Rattle.line.proofs.Codec.{numbered-own}
 use Rattle.reader.specs.Code.{entryOf}
 use Rattle.read.specs.Parts.{sixOf}

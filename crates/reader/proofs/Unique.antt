@@ -4,7 +4,7 @@ use mathlib.Core.Path.{_≡_}
 use mathlib.Core.Bool.{Bool}
 use Rattle.line.specs.Rest.{Timed, powerOn}
 use Rattle.line.specs.Reader.{Phase}
-use Rattle.line.proofs.Unique.{one-answer}
+use Rattle.laws.proofs.Unique.{one-answer}
 use Rattle.reader.specs.Code.{stateOf, after, Steps}
 use Rattle.reader.specs.declared.Reader.{Reader}
 use Rattle.reader.specs.declared.Stepped.{Stepped}

@@ -10,7 +10,7 @@ use Rattle.line.specs.Rest.{Timed, power, rest, frame, waiting, running, timer,
 use Rattle.line.specs.Memory.{Memory}
 use Rattle.line.specs.Slave as line
 use Rattle.line.specs.Slave.{deaf, locks, head, askR, askW, byteS, sends, takes, askP}
-use Rattle.line.proofs.Every.{looked-up}
+use Rattle.laws.proofs.Every.{looked-up}
 use Rattle.line.proofs.Dress.{stepTo}
 use Rattle.machine.specs.Zeros.{timed}
 use Rattle.slave.specs.Code.{stateBy, unsaid, heardBy, waitedBy, saysNothing}

@@ -4,7 +4,7 @@ use mathlib.Core.Path.{_≡_, sym}
 use mathlib.Core.Bool.{Bool}
 use Rattle.line.specs.Rest.{powerOn}
 use Rattle.line.specs.Memory.{Memory}
-use Rattle.line.proofs.Unique.{one-answer}
+use Rattle.laws.proofs.Unique.{one-answer}
 use Rattle.slave.specs.Code.{stateOf, placeOf, heardBy, saysNothing, Shows, stepOf, Steps}
 use Rattle.slave.specs.declared.Slave.{Slave}
 use Rattle.slave.specs.declared.Seen.{Seen}

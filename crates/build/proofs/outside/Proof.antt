@@ -1,7 +1,7 @@
 -- `build::outside` meets its contract: each answer is the definition at the branch's tests. Assumes nothing.
 use borrow.Author.Needs.{needs}
 use Rattle.build.specs.Build.{outsideAccess}
-use Rattle.line.proofs.Rules.{cases}
+use Rattle.laws.proofs.Rules.{cases}
 use Rattle.build.proofs.outside.Statement.{statement}
 use Rattle.build.proofs.outside.Tie as tie
 

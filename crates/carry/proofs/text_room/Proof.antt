@@ -1,7 +1,7 @@
 -- `carry::text_room` meets its contract: the definition at the branches' tests. Assumes nothing.
 use Rattle.job.specs.Refusals.{first}
 use Rattle.carry.specs.Carry.{textRoom}
-use Rattle.line.proofs.Rules.{cases}
+use Rattle.laws.proofs.Rules.{cases}
 use Rattle.carry.proofs.text_room.Statement.{statement}
 use Rattle.carry.proofs.text_room.Tie as tie
 

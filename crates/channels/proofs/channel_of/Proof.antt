@@ -1,7 +1,7 @@
 -- `channels::channel_of` meets its contract: each answer is the definition at the branch's tests.
 -- Assumes nothing.
 use borrow.Author.Needs.{needs}
-use Rattle.line.proofs.Rules.{cases}
+use Rattle.laws.proofs.Rules.{cases}
 use Rattle.channels.specs.Channel.{channelOf}
 use Rattle.channels.proofs.channel_of.Statement.{statement}
 use Rattle.channels.proofs.channel_of.Tie as tie

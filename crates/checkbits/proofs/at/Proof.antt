@@ -4,7 +4,7 @@ use Prim.Native.Nat.{_^_}
 use borrow.Author.Needs.{needs}
 use Rattle.line.specs.Bits.{bit}
 use Rattle.line.specs.Division.{headerBits, feed, divide, remainder, check}
-use Rattle.line.proofs.Table.{tabulated}
+use Rattle.laws.proofs.Table.{tabulated}
 use Rattle.checkbits.proofs.at.Statement.{statement}
 use Rattle.checkbits.proofs.at.Tie as tie
 

@@ -1,5 +1,5 @@
 -- `cursor::is_bit` meets its contract: the definition at the branch's test. Assumes nothing.
-use Rattle.line.proofs.Rules.{cases}
+use Rattle.laws.proofs.Rules.{cases}
 use Rattle.cursor.proofs.is_bit.Statement.{statement}
 use Rattle.cursor.proofs.is_bit.Tie as tie
 

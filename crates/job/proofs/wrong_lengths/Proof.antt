@@ -1,5 +1,5 @@
 -- `job::wrong_lengths` meets its contract: the definition at the branches' tests. Assumes nothing.
-use Rattle.line.proofs.Rules.{cases}
+use Rattle.laws.proofs.Rules.{cases}
 use Rattle.job.specs.Refusals.{first}
 use Rattle.job.specs.Rows.{rowRules}
 use Rattle.job.proofs.wrong_lengths.Statement.{statement}

@@ -1,6 +1,6 @@
 -- `run::refusal` meets its contract: each answer is the definition at the branch's tests. Assumes nothing.
 use borrow.Author.Needs.{needs}
-use Rattle.line.proofs.Rules.{cases}
+use Rattle.laws.proofs.Rules.{cases}
 use Rattle.job.specs.Refusals.{first}
 use Rattle.run.specs.Run.{refusals}
 use Rattle.run.proofs.refusal.Statement.{statement}

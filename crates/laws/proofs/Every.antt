@@ -4,7 +4,6 @@ use mathlib.Core.Path.{_≡_, refl}
 use mathlib.Core.Bool.{Bool, true, false, cond}
 use mathlib.Core.List.{List, [], _∷_}
 use mathlib.Core.Option.{Option, none, some}
-use Rattle.line.specs.Entries.{Entry, note}
 
 module _ {A : Type 0} (Q : A → Type 0) where
   abbrev pub Every : List A → Type 0
@@ -34,9 +33,3 @@ Matched R [] [] = Unit {0}
 Matched R [] (y ∷ ys) = ⊥
 Matched R (x ∷ xs) [] = ⊥
 Matched R (x ∷ xs) (y ∷ ys) = R x y × Matched R xs ys
-
-module _ (Q : Entry → Type 0) where
-  -- A column's entry, if it has one, before the others.
-  pub every-note : (o : Option Entry) (es : List Entry) → IfAny Q o → Every Q es → Every Q (note o es)
-  every-note none es q qs = qs
-  every-note (some e) es q qs = (q, qs)

@@ -1,0 +1,5 @@
+-- Laws about no line: lists and tests, tables, the rules of a branch, and that an equation has one answer.
+pub mod Every
+pub mod Table
+pub mod Rules
+pub mod Unique

@@ -1,0 +1,1 @@
+// No code: this crate is laws (proofs/) alone.
