@@ -9,7 +9,6 @@ use borrow.Author.Tests.{ltb-true, ltb-false, eqb-true, eqb-false}
 use lib.Dec.{ltb, eqb}
 use lib.ListN.{length}
 use Rattle.line.specs.Limits.{columnLimit}
-use Rattle.line.specs.Entries.{listBytes}
 use Rattle.line.specs.Text.{rowsText, badLine, cdmOf, cdsOf, listText}
 use Rattle.laws.proofs.Every.{tested}
 use Rattle.line.proofs.Text.{Back, there-and-back}
@@ -23,7 +22,7 @@ use Rattle.answer.proofs.Rows.{answers-late, answers-shown, answers-bad
 
 -- Given two right rows as text, the program prints the list that they show, from any of their columns on.
 pub rows-answered : (cdm cds : List ℕ) (k : ℕ) → first (wrongRows cdm cds) ≡ none → k ≤ length cdm
-    → answerText (rowsText cdm cds) k ≡ listText (listBytes (listOf k cdm cds))
+    → answerText (rowsText cdm cds) k ≡ listText (listOf k cdm cds)
 rows-answered cdm cds k e h =
     let right : Right cdm cds = right-rows cdm cds e in
     let back : Back cdm cds (rowsText cdm cds)

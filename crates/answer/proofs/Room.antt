@@ -7,17 +7,16 @@ use borrow.Author.Tests.{le-ltb, ltb-true, ltb-false, eqb-true, eqb-false}
 use lib.Dec.{ltb, eqb}
 use lib.ListN.{length, length-append}
 use Rattle.line.specs.Limits.{columnLimit}
-use Rattle.line.specs.Entries.{Entry, bytesOf, listBytes}
+use Rattle.line.specs.Entries.{Entry}
 use Rattle.line.specs.Text.{badLine, cdmOf, cdsOf, entryLines}
 use Rattle.laws.proofs.Every.{Every, tested}
-use Rattle.line.proofs.Codec.{read-back}
 use Rattle.line.proofs.Text.{bad-line-low}
 use Rattle.job.specs.Refusals.{alone, on-line, refusal, first}
 use Rattle.job.specs.declared.Outcome.{Outcome}
 use Rattle.job.specs.declared.Outcome.the-variants.{Made}
 use Rattle.job.proofs.Refusals.{ended-none}
 use Rattle.read.specs.Read.{listOf}
-use Rattle.read.proofs.Left.{length-list}
+use Rattle.read.proofs.Left.{length-listed}
 use Rattle.read.proofs.Bytes.{Small, small-list}
 use Rattle.entries.proofs.Short.{line-short}
 use Rattle.entries.proofs.Lists.{text-length}
@@ -29,14 +28,14 @@ use Rattle.answer.proofs.Rows.{answers-late, answers-shown, answers-bad
 abbrev pub answerRoom : ℕ
 answerRoom = 131072
 
--- The lines of entries that six bytes hold.
+-- The lines of entries whose fields are bytes.
 lines-short : (limit : ℕ) (es : List Entry) → limit ≤ columnLimit → Every (Small limit) es
-    → length (entryLines (listBytes es)) ≤ 27 * length es
-unfolding entryLines listBytes bytesOf
+    → length (entryLines es) ≤ 27 * length es
+unfolding entryLines
 lines-short limit [] l h = omega arith
 lines-short limit (e ∷ es) l h =
     let small = h .0 in
-    rw (read-back e, length-append)
+    rw length-append
     (omega (
       arith,
       line-short e (omega arith) (omega arith) (omega arith) (omega arith),
@@ -60,9 +59,9 @@ rows-fit cdm cds k h =
     rw (answers-shown cdm cds k within)
     (omega (
       arith,
-      text-length (listBytes (listOf k cdm cds)),
+      text-length (listOf k cdm cds),
       lines-short (length cdm) (listOf k cdm cds) h (small-list k cdm cds within),
-      length-list k cdm cds,
+      length-listed k cdm cds,
     )))
 
 -- The list, or a refusal; a text in memory has fewer than 2 ^ 63 bytes.

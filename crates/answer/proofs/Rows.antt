@@ -1,7 +1,7 @@
 -- What the jobs say that the answer calls, in rooms that any result fits. Assumes nothing.
 use mathlib.Core.Path.{_≡_, refl, sym, ap, _∙_}
 use mathlib.Core.Bool.{true}
-use mathlib.Core.List.{List, [], _∷_}
+use mathlib.Core.List.{List, [], _∷_, append-assoc}
 use mathlib.Core.Option.{none, orElse}
 use Prim.Native.Nat.{ℕ, _*_, _%_, _≤_, _<_}
 use native.Mathlib.Omega.{arith}
@@ -9,10 +9,10 @@ use borrow.Author.Tests.{lt-ltb, le-ltb, ltb-false, le-leb}
 use lib.Dec.{ltb}
 use lib.ListN.{length, take, drop, getD}
 use Rattle.line.specs.Limits.{columnLimit}
-use Rattle.line.specs.Entries.{listBytes}
-use Rattle.line.specs.Text.{badLine, rowIn, cdmOf, cdsOf, isList, listText}
+use Rattle.line.specs.Layout.{current, entryBytes, listBytes, entriesIn, isList}
+use Rattle.line.specs.Text.{badLine, rowIn, cdmOf, cdsOf, listText}
 use Rattle.laws.proofs.Every.{tested}
-use Rattle.line.proofs.Codec.{bytes-list}
+use Rattle.line.proofs.Codec.{length-list, entries-back, bytes-list}
 use Rattle.job.specs.Bytes.{noneAbove, areBits}
 use Rattle.job.specs.Refusals.{alone, on-line, refusal, Rule, when, found, first, detail, lent, left}
 use Rattle.job.specs.Rows.{wrongRows}
@@ -20,9 +20,8 @@ use Rattle.job.specs.declared.Outcome.{Outcome}
 use Rattle.job.specs.declared.Outcome.the-variants.{Made, Refused}
 use Rattle.job.proofs.Refusals.{no, keeps, passes, same-rules, was-made, was-refused, result-fits, result-first}
 use Rattle.job.proofs.Rows.{right-rows, not-wrong}
-use Rattle.read.specs.Read.{listOf, refusals, Listed}
-use Rattle.read.proofs.Filled.{length-bytes}
-use Rattle.read.proofs.Left.{length-list}
+use Rattle.read.specs.Read.{listOf, rowsRefusals, refusals, Listed}
+use Rattle.read.proofs.Left.{length-listed}
 use Rattle.entries.specs.Lists.{listRefusals, ListPrinted}
 use Rattle.carry.specs.Carry.{badForm, textRoom, textRefusals, RowsTaken}
 use Rattle.carry.proofs.Ends.{columns-in, form-good, form-bad}
@@ -34,15 +33,16 @@ module _ (cdm cds : List ℕ) (k : ℕ) where
   unfolding rowsAnswer printed first
   answers-late h = rw (lt-ltb (length cdm) k h)
 
-  pub answers-shown : k ≤ length cdm → rowsAnswer cdm cds k ≡ listText (listBytes (listOf k cdm cds))
+  pub answers-shown : k ≤ length cdm → rowsAnswer cdm cds k ≡ listText (listOf k cdm cds)
   unfolding rowsAnswer printed first
   answers-shown h = rw (le-ltb (length cdm) k h)
 
-  pub answers-list : k ≤ length cdm → {list : List ℕ} → list ≡ listBytes (listOf k cdm cds) → {out after : List ℕ} {answer : Outcome}
+  pub answers-list : k ≤ length cdm → {list : List ℕ} → list ≡ listBytes current (listOf k cdm cds) → {out after : List ℕ} {answer : Outcome}
       → ListPrinted list out answer after → Whole (rowsAnswer cdm cds k) out answer after
   unfolding listRefusals first
   answers-list h {list} e printed =
-      rw (answers-shown h, ← e) (same-rules printed (rw (ap isList e ∙ bytes-list (listOf k cdm cds))))
+      let back = ap (entriesIn current) e ∙ entries-back current (listOf k cdm cds) in
+      rw (answers-shown h, ← back) (same-rules printed (rw (ap (isList current) e ∙ bytes-list current (listOf k cdm cds))))
 
 module _ (text : List ℕ) (k : ℕ) where
   pub answers-bad : (badLine text ≡ 0 → ⊥) → answerText text k ≡ refusedText (refusal 11 (on-line (badLine text)))
@@ -111,29 +111,30 @@ module _ (text cdm cds : List ℕ) (cdm-room : columnLimit ≡ length cdm) (cds-
 
 -- What read answers for right rows where the lent list holds any list: the list, or a refusal that is printed.
 abbrev pub Lists : (cdm cds : List ℕ) → (k : ℕ) → (after : List ℕ) → Outcome → Type 0
-Lists cdm cds k after (Made n) = (k ≤ length cdm) × (6 * n ≤ length after) × (take (6 * n) after ≡ listBytes (listOf k cdm cds))
+Lists cdm cds k after (Made n) = (k ≤ length cdm) × (entryBytes current * n ≤ length after)
+    × (take (entryBytes current * n) after ≡ listBytes current (listOf k cdm cds))
 Lists cdm cds k after (Refused number beside) = rowsAnswer cdm cds k ≡ refusedText (refusal number (detail beside))
 
-module _ (cdm cds : List ℕ) (k : ℕ) (right : first (wrongRows cdm cds) ≡ none) (out : List ℕ) (room : 6 * columnLimit ≡ length out) where
+module _ (cdm cds : List ℕ) (k : ℕ) (right : first (wrongRows cdm cds) ≡ none) (out : List ℕ) (room : entryBytes current * columnLimit ≡ length out) where
   -- Only the opening column can be refused.
   abbrev opening : List Rule
   opening = when (ltb (length cdm) k) 8 ∷ []
 
   by-opening : first (refusals cdm cds k (length out)) ≡ first opening
-  unfolding refusals first
+  unfolding refusals rowsRefusals first
   by-opening =
-      let short : length (listBytes (listOf k cdm cds)) ≤ length out =
-      omega (arith, right-rows cdm cds right .short, length-bytes (listOf k cdm cds), length-list k cdm cds) in
-      passes (wrongRows cdm cds) _ right ∙ rw (le-ltb _ _ short)
+      let short : length (listBytes current (listOf k cdm cds)) ≤ length out =
+      omega (arith, right-rows cdm cds right .short, length-list current (listOf k cdm cds), length-listed k cdm cds) in
+      rw (append-assoc (wrongRows cdm cds)) (passes (wrongRows cdm cds) _ right ∙ rw (le-ltb _ _ short))
 
   pub lists : (answer : Outcome) {after : List ℕ} → Listed cdm cds k out answer after → Lists cdm cds k after answer
   unfolding rowsAnswer printed
   lists (Made n) {after} l =
       let done = was-made (l .ends) in
-      let list : List ℕ = listBytes (listOf k cdm cds) in
-      let six : 6 * n ≡ length list = omega (arith, length-bytes (listOf k cdm cds), done .1) in
+      let list : List ℕ = listBytes current (listOf k cdm cds) in
+      let long : entryBytes current * n ≡ length list = omega (arith, length-list current (listOf k cdm cds), done .1) in
       let there : after ≡ left none (lent list out) = cc in
-      (ltb-false _ _ (no 8 opening (sym by-opening ∙ done .0)), rw (there, six) (result-fits list out), rw (there, six) (result-first list out))
+      (ltb-false _ _ (no 8 opening (sym by-opening ∙ done .0)), rw (there, long) (result-fits list out), rw (there, long) (result-first list out))
   lists (Refused number beside) l = rw (sym by-opening ∙ was-refused (l .ends))
 
 -- The rows of a text are never wrong in their bytes, and of one length.

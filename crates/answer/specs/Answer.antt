@@ -5,7 +5,7 @@ use Prim.Native.Nat.{ℕ}
 use lib.Dec.{ltb}
 use lib.ListN.{length}
 use Rattle.line.specs.Limits.{columnLimit}
-use Rattle.line.specs.Entries.{bytes, listBytes}
+use Rattle.line.specs.Entries.{bytes}
 use Rattle.line.specs.Text.{tab, feed, decimal, badLine, cdmOf, cdsOf, listText}
 use Rattle.job.specs.Refusals.{Detail, alone, on-line, Refusal, refusal, Rule, when, found, first}
 use Rattle.job.specs.declared.Outcome.{Outcome}
@@ -29,7 +29,7 @@ refusedText (refusal number beside) = bytes "refused" ++ fields (number ∷ valu
 
 -- That line, or where nothing is refused the list of what two rows show, as text.
 unfoldable pub printed : Option Refusal → (cdm cds : List ℕ) → (opening : ℕ) → List ℕ
-printed none cdm cds opening = listText (listBytes (listOf opening cdm cds))
+printed none cdm cds opening = listText (listOf opening cdm cds)
 printed (some r) cdm cds opening = refusedText r
 
 -- "Text to rows: 11, 5", then "Read": the rows of a text are of one length and hold bits, and there is room for any list, so of the

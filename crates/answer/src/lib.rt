@@ -1,20 +1,21 @@
 // What the indexing program prints for a text of two rows: their list as text, or the line of a refusal.
 ghost use mathlib.Core.Path.{_≡_};
 ghost use mathlib.Core.Option.{none};
-ghost use Prim.Native.Nat.{_+_, _≤_};
+ghost use Prim.Native.Nat.{_+_, _*_, _≤_};
 ghost use lib.ListN.{length};
+ghost use Rattle.line.specs.Limits.{columnLimit};
+ghost use Rattle.line.specs.Layout.{current, entryBytes};
 ghost use Rattle.job.specs.Refusals.{refusal, detail, first};
 ghost use Rattle.job.specs.Rows.{wrongRows};
 ghost use Rattle.print.specs.Laid.{Laid};
 ghost use Rattle.answer.specs.Answer.{fields, values, refusedText, rowsAnswer, longAnswer, Whole, Answered};
 use job::COLUMN_LIMIT;
 use job::Detail;
+use job::ENTRY_BYTES;
 use job::Outcome;
 
-// Entries: "Six bytes", "At most one entry falls in a column".
-const ENTRY: usize = 6;
-
-const LIST_LIMIT: usize = ENTRY * COLUMN_LIMIT;
+// "At most one entry falls in a column".
+const LIST_LIMIT: usize = ENTRY_BYTES * COLUMN_LIMIT;
 
 // More than the line of a refusal: the word, its number, values of at most twenty digits beside it, their TABs and LF.
 const REFUSAL_LIMIT: usize = 64;
@@ -51,7 +52,7 @@ fn rows_answer(cdm: &[u8], cds: &[u8], opening: usize, out: &mut [u8]) -> Outcom
     let mut list = list_room();
     let listed = read::read(cdm, cds, opening, &mut list);
     match listed {
-        Outcome::Made(n) => entries::list_to_text(&list[..ENTRY * n], out),
+        Outcome::Made(n) => entries::list_to_text(&list[..ENTRY_BYTES * n], out),
         Outcome::Refused(number, beside) => refused(number, beside, out),
     }
 }
@@ -91,13 +92,13 @@ fn whole(text: &[u8], out: &mut [u8]) -> Outcome
 }
 
 fn row() -> [u8; COLUMN_LIMIT]
-    ensures { λ r. ⌜ 4096 ≡ length r ⌝ }
+    ensures { λ r. ⌜ columnLimit ≡ length r ⌝ }
 {
     [0; COLUMN_LIMIT]
 }
 
 fn list_room() -> [u8; LIST_LIMIT]
-    ensures { λ r. ⌜ 24576 ≡ length r ⌝ }
+    ensures { λ r. ⌜ entryBytes current * columnLimit ≡ length r ⌝ }
 {
     [0; LIST_LIMIT]
 }

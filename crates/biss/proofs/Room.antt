@@ -10,9 +10,10 @@ use borrow.Author.Tests.{ltb-false}
 use lib.ListN.{length}
 use Rattle.line.specs.Limits.{columnLimit}
 use Rattle.line.specs.Building.{Request}
-use Rattle.line.specs.Entries.{listBytes}
+use Rattle.line.specs.Layout.{current, listBytes, entriesIn}
 use Rattle.line.specs.Text.{rowsText, badLine, cdmOf, listText}
 use Rattle.laws.proofs.Every.{IfAny}
+use Rattle.line.proofs.Codec.{length-list}
 use Rattle.line.proofs.Text.{bad-line-low}
 use Rattle.job.specs.Refusals.{Refusal, Rule, when, found, first, refused, ending, told, Lent, Ended}
 use Rattle.job.specs.Rows.{rowRules, wrongRow, wrongRows}
@@ -24,7 +25,6 @@ use Rattle.run.specs.Run as Run
 use Rattle.run.specs.Run.{Ran}
 use Rattle.read.specs.Read as Read
 use Rattle.read.specs.Read.{listOf, Listed}
-use Rattle.read.proofs.Filled.{length-bytes}
 use Rattle.entries.specs.Lists.{listRefusals, ListPrinted}
 use Rattle.carry.specs.Carry.{rowsRefusals, badForm, textRoom, textRefusals, RowsPrinted, RowsTaken}
 use Rattle.biss.specs.Coded.{Fits}
@@ -65,11 +65,11 @@ ran-fits {cdm} ran =
 
 pub listed-fits : {cdm cds : List ℕ} {k : ℕ} {out : List ℕ} {answer : Outcome} {after : List ℕ} → Listed cdm cds k out answer after
     → length out < 2 ^ 63 → Fits (told answer)
-unfolding Read.refusals wrongRows rowRules
+unfolding Read.refusals Read.rowsRefusals wrongRows rowRules
 listed-fits {cdm} {cds} {k} {out} listed h =
     let list = listOf k cdm cds in
     end-fits (listed .ends) (omega arith)
-    (λ e. let fits : length (listBytes list) ≤ length out = ltb-false _ _ (no 9 _ e) in omega (arith, length-bytes list))
+    (λ e. let fits : length (listBytes current list) ≤ length out = ltb-false _ _ (no 9 _ e) in omega (arith, length-list current list))
 
 -- .. and of carry.
 pub rows-printed-fits : (cdm cds : List ℕ) {out : List ℕ} {answer : Outcome} {after : List ℕ} → RowsPrinted cdm cds out answer after
@@ -83,7 +83,7 @@ pub list-printed-fits : (list : List ℕ) {out : List ℕ} {answer : Outcome} {a
     → length out < 2 ^ 63 → Fits (told answer)
 unfolding listRefusals
 list-printed-fits list {out} printed h =
-    end-fits printed (omega arith) (λ e. let fits : length (listText list) ≤ length out = ltb-false _ _ (no 9 _ e) in omega arith)
+    end-fits printed (omega arith) (λ e. let fits : length (listText (entriesIn current list)) ≤ length out = ltb-false _ _ (no 9 _ e) in omega arith)
 
 form-fits : (bad : ℕ) → bad < 2 ^ 62 → IfAny (λ (r : Refusal). Fits (refused r)) (badForm bad)
 form-fits zero h = tt

@@ -26,10 +26,10 @@ use Rattle.run.specs.Run.{memoriesOf, registersOf, refusals, Ran}
 use Rattle.run.proofs.Rows.{row-num}
 use Rattle.run.proofs.Ends.{held, short-row, same-rows, master-bits}
 use Rattle.read.specs.Read as Read
-use Rattle.read.specs.Read.{listOf}
-use Rattle.read.specs.Parts.{rowsRefusals}
-use Rattle.read.proofs.Filled.{length-bytes}
-use Rattle.read.proofs.Left.{length-list}
+use Rattle.line.specs.Layout.{current, entryBytes}
+use Rattle.line.proofs.Codec.{length-list}
+use Rattle.read.specs.Read.{rowsRefusals, listOf}
+use Rattle.read.proofs.Left.{length-listed}
 use Rattle.read.proofs.Ends.{rows-good, not-refused}
 use Rattle.demands.specs.Lent.{areBytes}
 use Rattle.demands.proofs.Chains.{memories-bytes, registers-back, replay-length}
@@ -60,7 +60,7 @@ module _ {slaves c : ℕ} {rights registers cdm cds registers′ cds′ : List �
   row-long : length cds′ ≡ length cdm
   row-long = ap length row-bytes ∙ answers-long
 
-  -- Read refuses neither row by 5 to 8, and six bytes a column are room enough.
+  -- Read refuses neither row by 5 to 8, and an entry's room for each column is enough.
   rows-right : (k : ℕ) → k ≤ length cdm → first (rowsRefusals cdm cds′ k) ≡ none
   rows-right k h =
       let right : first (wrongRows cdm cds′) ≡ none = not-wrong cdm cds′ (record {
@@ -71,10 +71,10 @@ module _ {slaves c : ℕ} {rights registers cdm cds registers′ cds′ : List �
       }) in
       sym (rows-good cdm cds′ k {why = 0} (sym right) refl h)
 
-  pub rows-read : (k : ℕ) (out : List ℕ) → k ≤ length cdm → 6 * length cdm ≤ length out
+  pub rows-read : (k : ℕ) (out : List ℕ) → k ≤ length cdm → entryBytes current * length cdm ≤ length out
       → first (Read.refusals cdm cds′ k (length out)) ≡ none
   rows-read k out h room =
-      not-refused cdm cds′ k out (rows-right k h) (omega (arith, length-bytes (listOf k cdm cds′), length-list k cdm cds′))
+      not-refused cdm cds′ k out (rows-right k h) (omega (arith, length-list current (listOf k cdm cds′), length-listed k cdm cds′))
 
   -- The list of the two rows is that of the master row and the chain's answers.
   pub row-list : listOf 0 cdm cds′ ≡ listFrom 0 (columns (rowOf cdm) (answersFrom chain (rowOf cdm)))

@@ -12,7 +12,7 @@ use lib.Seq.{getD-take, getD-drop}
 use Rattle.line.specs.Limits.{registerCount}
 use Rattle.line.specs.Division.{dataBits}
 use Rattle.line.specs.Memory.{Memory, allows, holds, stored}
-use Rattle.line.specs.Entries.{Kind, Entry}
+use Rattle.line.specs.Entries.{Kind, Event, Entry}
 use Rattle.line.specs.Replay.{storedAt, is, put, replay}
 use Rattle.laws.proofs.Every.{tested}
 use Rattle.line.proofs.Memories.{Bytes}
@@ -63,7 +63,7 @@ stored-length [] id address value = refl
 stored-length (k ∷ ks) zero address value = simp (length-append, length-set)
 stored-length (k ∷ ks) (suc id) address value = simp (length-append, stored-length ks id address value)
 
-put-length : (ks : List Memory) (e : Entry) → length (registersOf (put ks e)) ≡ length (registersOf ks)
+put-length : (ks : List Memory) (e : Event) → length (registersOf (put ks e)) ≡ length (registersOf ks)
 unfolding put
 put-length ks e =
     tested (is Kind.written e) (λ q. rw q (stored-length ks (e .id) (e .address) (e .value))) (λ q. rw q)
@@ -71,7 +71,7 @@ put-length ks e =
 pub replay-length : (ks : List Memory) (es : List Entry) → length (registersOf (replay ks es)) ≡ length (registersOf ks)
 unfolding replay
 replay-length ks [] = refl
-replay-length ks (e ∷ es) = replay-length (put ks e) es ∙ put-length ks e
+replay-length ks (e ∷ es) = replay-length (put ks (e .event)) es ∙ put-length ks (e .event)
 
 -- Registers that differ only where nothing may be read make memories that are alike.
 module _ {rights registers registers′ : List ℕ} (differ : DifferUnread rights registers registers′) where

@@ -10,11 +10,11 @@ use borrow.Author.Tests.{le-ltb}
 use lib.ListN.{length, take}
 use Rattle.line.specs.Limits.{restZeros}
 use Rattle.line.specs.Bits.{num, rowOf}
-use Rattle.line.specs.Entries.{listBytes}
+use Rattle.line.specs.Layout.{current, entryBytes, listBytes, entriesIn, isList}
 use Rattle.line.specs.Account.{account}
 use Rattle.line.specs.Replay.{replay, Shows}
 use Rattle.line.specs.Runs.{FirstRun, NoRun, fromColumn}
-use Rattle.line.specs.Text.{rowsText, listText, cdmOf, cdsOf, isList}
+use Rattle.line.specs.Text.{rowsText, listText, cdmOf, cdsOf}
 use Rattle.line.proofs.Codec.{bytes-list}
 use Rattle.line.proofs.Demands as line
 use Rattle.line.proofs.Text.{back-and-there}
@@ -27,7 +27,7 @@ use Rattle.print.proofs.Ends.{was-printed}
 use Rattle.entries.specs.Lists.{ListPrinted}
 use Rattle.entries.proofs.Lists.{list-none}
 use Rattle.carry.specs.Carry.{RowsPrinted, RowsTaken}
-use Rattle.demands.specs.Lent.{areBytes, listIn, entriesIn, kindAt, isFault, DifferUnread}
+use Rattle.demands.specs.Lent.{areBytes, listIn, kindAt, isFault, DifferUnread}
 use Rattle.demands.proofs.Chains.{all-alike}
 use Rattle.demands.proofs.Lists.{list-count, list-bytes, list-entries, list-empty, list-late, list-never, no-fault-at}
 use Rattle.demands.proofs.Answers.{row-bytes, rows-read, row-account, row-shows, row-replay}
@@ -38,15 +38,15 @@ module _ {slaves c n : ℕ} {rights registers cdm cds registers′ cds′ lent a
     (ran : Ran slaves rights registers cdm cds (Made c) registers′ cds′) (listed : Listed cdm cds′ 0 lent (Made n) after) where
   -- "The list read from the two rows alone is the chain's own account, entry for entry": as many entries, and every byte of them.
   pub list-is-account : (n ≡ length (account (memoriesOf slaves registers rights) (rowOf cdm)))
-      × (listIn n after ≡ listBytes (account (memoriesOf slaves registers rights) (rowOf cdm)))
-  list-is-account = (list-count listed ∙ ap length (row-account ran bytes), list-bytes listed ∙ ap listBytes (row-account ran bytes))
+      × (listIn n after ≡ listBytes current (account (memoriesOf slaves registers rights) (rowOf cdm)))
+  list-is-account = (list-count listed ∙ ap length (row-account ran bytes), list-bytes listed ∙ ap (listBytes current) (row-account ran bytes))
 
   -- "Its writes replayed on the starting registers give the final registers": those that run left.
-  pub replay-is-final : registersOf (replay (memoriesOf slaves registers rights) (entriesIn (listIn n after))) ≡ registers′
+  pub replay-is-final : registersOf (replay (memoriesOf slaves registers rights) (entriesIn current (listIn n after))) ≡ registers′
   replay-is-final = rw (list-entries listed) (row-replay ran bytes)
 
   -- "Each read shows the byte that stood there then": in the replay of the entries before it.
-  pub reads-show : Shows (memoriesOf slaves registers rights) (entriesIn (listIn n after))
+  pub reads-show : Shows (memoriesOf slaves registers rights) (entriesIn current (listIn n after))
   reads-show = rw (list-entries listed) (row-shows ran bytes)
 
   -- No entry of the list is of a kind 2, 8, 9, 12 or 14: only damaged rows show a fault.
@@ -56,10 +56,10 @@ module _ {slaves c n : ℕ} {rights registers cdm cds registers′ cds′ lent a
       (no-fault-at (account (memoriesOf slaves registers rights) (rowOf cdm)) place (line.no-faults _ (rowOf cdm))
       (omega (arith, list-is-account .0)))
 
--- Every accepted run has such a list: read refuses its two rows from no opening column in them, if six bytes a column are lent.
+-- Every accepted run has such a list: read refuses its two rows from no opening column in them, if an entry has room for each column.
 pub run-is-read : {slaves c k : ℕ} {rights registers cdm cds registers′ cds′ lent after : List ℕ} {answer : Outcome}
     → Ran slaves rights registers cdm cds (Made c) registers′ cds′ → Listed cdm cds′ k lent answer after
-    → k ≤ length cdm → 6 * length cdm ≤ length lent → answer ≡ Made (length (listOf k cdm cds′))
+    → k ≤ length cdm → entryBytes current * length cdm ≤ length lent → answer ≡ Made (length (listOf k cdm cds′))
 run-is-read {k} {lent} ran listed opening room =
     ended-none (listed .ends) (rows-read ran k lent opening room)
 
@@ -68,10 +68,10 @@ module _ {cdm cds lent after : List ℕ} {k n : ℕ} (listed : Listed cdm cds k 
   -- "A reader let in at column k lists exactly the full list's entries after the first run of fourteen master zeros" lying wholly at or
   -- after k: the run begins at column j, and the full list is the one that read makes from column 0 ..
   pub late-opening : {lent′ whole : List ℕ} {m j : ℕ} → Listed cdm cds 0 lent′ (Made m) whole → FirstRun (rowOf cdm) k j
-      → listIn n after ≡ listBytes (fromColumn (j + restZeros) (entriesIn (listIn m whole)))
+      → listIn n after ≡ listBytes current (fromColumn (j + restZeros) (entriesIn current (listIn m whole)))
   late-opening {j} full first =
       list-bytes listed
-      ∙ ap listBytes (list-late listed first ∙ ap (fromColumn (j + restZeros)) (sym (list-entries full)))
+      ∙ ap (listBytes current) (list-late listed first ∙ ap (fromColumn (j + restZeros)) (sym (list-entries full)))
 
   -- .. "or nothing if there is none": no entry, and no byte of the lent buffer changed.
   pub late-nothing : NoRun (rowOf cdm) k → (n ≡ 0) × (after ≡ lent)
@@ -79,9 +79,9 @@ module _ {cdm cds lent after : List ℕ} {k n : ℕ} (listed : Listed cdm cds k 
 
   -- List to text never refuses it by 12, and with room for its text prints it.
   pub list-prints : {room out : List ℕ} {answer : Outcome} → ListPrinted (listIn n after) room answer out
-      → length (listText (listIn n after)) ≤ length room → answer ≡ Made (length (listText (listIn n after)))
+      → length (listText (entriesIn current (listIn n after))) ≤ length room → answer ≡ Made (length (listText (entriesIn current (listIn n after))))
   list-prints {room} printed enough =
-      let is-list : isList (listIn n after) ≡ true = rw (list-bytes listed) (bytes-list (listOf k cdm cds)) in
+      let is-list : isList current (listIn n after) ≡ true = rw (list-bytes listed) (bytes-list current (listOf k cdm cds)) in
       ended-none printed (list-none (listIn n after) (length room) is-list (le-ltb _ _ enough))
 
 -- "Two runs with the same rights and master row that differ only in registers without the read right give the same answer row."
@@ -111,14 +111,14 @@ text-is-rows {text} rows =
 module _ {text a b a′ b′ lent list room out : List ℕ} {c k n p : ℕ} (rows : RowsTaken text a b (Made c) a′ b′)
     (listed : Listed (take c a′) (take c b′) k lent (Made n) list) (printed : ListPrinted (listIn n list) room (Made p) out) where
   -- What is printed is the list of the rows in the text ..
-  pub list-is-printed : take p out ≡ listText (listBytes (listOf k (cdmOf text) (cdsOf text)))
+  pub list-is-printed : take p out ≡ listText (listOf k (cdmOf text) (cdsOf text))
   list-is-printed =
       let there = rows-taken rows in
-      was-printed printed .2 ∙ ap listText (list-bytes listed ∙ rw (there .cdm-there, there .cds-there))
+      was-printed printed .2 ∙ ap listText (list-entries listed ∙ rw (there .cdm-there, there .cds-there))
 
   -- .. and of a text that rows to text wrote it is the list of the rows that were written.
   pub written-is-printed : (cdm cds : List ℕ) {lent′ written : List ℕ} {m : ℕ} → RowsPrinted cdm cds lent′ (Made m) written
-      → text ≡ take m written → take p out ≡ listText (listBytes (listOf k cdm cds))
+      → text ≡ take m written → take p out ≡ listText (listOf k cdm cds)
   written-is-printed cdm cds wrote same =
       let back = printed-back cdm cds wrote in
       list-is-printed ∙ rw (same, back .cdm-back, back .cds-back)
@@ -129,6 +129,6 @@ pub account-is-printed : {slaves c d n m p : ℕ}
     → Ran slaves rights registers cdm cds (Made c) registers′ cds′ → RowsPrinted cdm cds′ lent (Made m) written
     → RowsTaken (take m written) a b (Made d) a′ b′ → Listed (take d a′) (take d b′) 0 lent′ (Made n) list
     → ListPrinted (listIn n list) room (Made p) out
-    → take p out ≡ listText (listBytes (account (memoriesOf slaves registers rights) (rowOf cdm)))
+    → take p out ≡ listText (account (memoriesOf slaves registers rights) (rowOf cdm))
 account-is-printed {cdm} {cds′} bytes ran wrote rows listed printed =
     written-is-printed rows listed printed cdm cds′ wrote refl ∙ rw (row-account ran bytes)

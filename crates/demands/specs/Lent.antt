@@ -1,4 +1,4 @@
--- What the demands say of lent buffers: that they hold bytes, a list in one and its entries, the kinds that no chain makes, and
+-- What the demands say of lent buffers: that they hold bytes, a list in one and its kinds, the kinds that no chain makes, and
 -- registers that differ only where nothing may be read.
 use mathlib.Core.Path.{_≡_}
 use mathlib.Core.Bool.{Bool, true, false, _||_}
@@ -7,30 +7,20 @@ use Prim.Native.Nat.{ℕ, _*_}
 use lib.Dec.{eqb}
 use lib.ListN.{length, take, getD}
 use Rattle.line.specs.Bits.{num, bit}
-use Rattle.line.specs.Entries.{Entry, note, fromBytes}
+use Rattle.line.specs.Layout.{Field, current, entryBytes, fieldAt}
 use Rattle.job.specs.Bytes.{noneAbove}
 
 -- A lent buffer holds bytes, as every slice of `u8` does.
 unfoldable pub areBytes : List ℕ → Bool
 areBytes buffer = noneAbove 255 buffer
 
--- Entries: "Six bytes": the list of n entries that stands at the start of a buffer.
+-- The list of n entries that stands at the start of a buffer.
 unfoldable pub listIn : (n : ℕ) → (buffer : List ℕ) → List ℕ
-listIn n buffer = take (6 * n) buffer
+listIn n buffer = take (entryBytes current * n) buffer
 
--- The entries of a list's bytes, six by six.
-unfoldable pub entriesIn : (list : List ℕ) → List Entry
-entriesIn [] = []
-entriesIn (k ∷ []) = []
-entriesIn (k ∷ h ∷ []) = []
-entriesIn (k ∷ h ∷ l ∷ []) = []
-entriesIn (k ∷ h ∷ l ∷ i ∷ []) = []
-entriesIn (k ∷ h ∷ l ∷ i ∷ a ∷ []) = []
-entriesIn (k ∷ h ∷ l ∷ i ∷ a ∷ v ∷ list) = note (fromBytes (k ∷ h ∷ l ∷ i ∷ a ∷ v ∷ [])) (entriesIn list)
-
--- The kind's byte of the entry at a place of a list.
+-- The kind's number of the entry at a place of a list.
 unfoldable pub kindAt : (list : List ℕ) → (place : ℕ) → ℕ
-kindAt list place = getD list (6 * place) 0
+kindAt list place = fieldAt current list (entryBytes current * place) Field.kind
 
 -- A number is one of some.
 abbrev pub isOneOf : List ℕ → ℕ → Bool

@@ -1,13 +1,16 @@
--- An entry's line by its parts, and how long each is. Assumes nothing.
-use mathlib.Core.Path.{_≡_, refl}
+-- An entry's line by its parts. Assumes nothing.
+use mathlib.Core.Path.{_≡_, refl, sym, ap, _∙_}
 use mathlib.Core.Bool.{Bool, true, false}
 use mathlib.Core.List.{List, [], _∷_, _++_}
 use Prim.Native.Nat.{ℕ, _+_, _≤_}
 use native.Mathlib.Omega.{arith}
-use lib.ListN.{length, length-append}
-use Rattle.line.specs.Text.{tab, feed, decimal, field, entryLine}
-use Rattle.names.specs.Names.{nameOf, names}
-use Rattle.entries.specs.Lines.{kindFields}
+use lib.ListN.{length, length-append, set}
+use lib.Seq.{sets, length-sets}
+use Rattle.line.specs.Entries.{table, Entry}
+use Rattle.line.specs.Layout.{Field, numbers, valueOf, named}
+use Rattle.line.specs.Text.{tab, feed, decimal, field, cells, entryLine}
+use Rattle.print.specs.Laid.{Laid}
+use Rattle.print.proofs.Runs.{run-laid, laid-length}
 
 -- The byte of `-`.
 abbrev pub minus : ℕ
@@ -22,47 +25,59 @@ pub field-unnamed : (b : Bool) (n : ℕ) → b ≡ false → field b n ≡ tab �
 unfolding field
 field-unnamed b n e = rw e
 
--- The name, the fields and the line feed.
-module _ (kind column id address value : ℕ) where
-  pub line-parts : nameOf kind ++ field true column ++ field (names kind 0) id ++ field (names kind 1) address
-      ++ field (names kind 2) value ++ feed ∷ []
-      ≡ kindFields kind column id address value
-  unfolding kindFields entryLine nameOf names
-  line-parts = refl
+-- How long the fields of a line are, with the line feed ..
+abbrev pub cellsLength : Entry → List Field → ℕ
+cellsLength e [] = 1
+cellsLength e (f ∷ fs) = length (field (named e f) (valueOf e f)) + cellsLength e fs
 
-  pub line-length : length (kindFields kind column id address value)
-      ≡ length (nameOf kind) + length (field true column) + length (field (names kind 0) id) + length (field (names kind 1) address)
-      + length (field (names kind 2) value) + 1
-  line-length = rw (← line-parts) (simp length-append)
+cells-length : (e : Entry) (fs : List Field) → length (cells e fs) ≡ cellsLength e fs
+unfolding cells
+cells-length e [] = refl
+cells-length e (f ∷ fs) = rw (length-append, cells-length e fs)
 
-  -- The parts laid up to each field, and the room that is left for the next.
-  abbrev pub toColumn : List ℕ
-  toColumn = nameOf kind ++ field true column
+-- .. and a line.
+pub line-length : (e : Entry) → length (entryLine e) ≡ length (table (e .event .kind) .name) + cellsLength e numbers
+unfolding entryLine
+line-length e = rw (length-append, cells-length e numbers)
 
-  abbrev pub toId : List ℕ
-  toId = toColumn ++ field (names kind 0) id
+-- What is left of bytes to lay: there is room for it, and laid on the buffer of now it is all of them laid on the first.
+pub record Left (all : List ℕ) (at : ℕ) (lent rest : List ℕ) (p : ℕ) (now : List ℕ) : Type 0 where
+  pub fits : p + length rest ≤ length now
+  pub place : p + length rest ≡ at + length all
+  pub laid : sets now p rest ≡ sets lent at all
 
-  abbrev pub toAddress : List ℕ
-  toAddress = toId ++ field (names kind 1) address
+pub left-all : {all lent : List ℕ} {at : ℕ} → at + length all ≤ length lent → Left all at lent all at lent
+left-all h = record { fits = h; place = refl; laid = refl }
 
-  abbrev pub toValue : List ℕ
-  toValue = toAddress ++ field (names kind 2) value
+module _ {all lent now : List ℕ} {at p : ℕ} where
+  -- What is left behind a part of it.
+  pub left-behind : {part after : List ℕ} {q : ℕ} (rest : List ℕ) → Left all at lent (part ++ rest) p now → Laid part p now q after
+      → Left all at lent rest q after
+  left-behind {part} rest l put =
+      let long = length-append part rest in
+      let same = laid-length put in
+      record { fits = omega (arith, put .behind); place = omega (arith, put .behind); laid = run-laid put rest ∙ l .laid }
 
-  module _ (at room : ℕ) (h : at + length (kindFields kind column id address value) ≤ room) where
-    pub fits-feed : at + length toValue + 1 ≤ room
-    fits-feed = simp length-append (omega (arith, line-length))
+  pub left-same : {rest : List ℕ} → Left all at lent rest p now → length now ≡ length lent
+  left-same {rest} l = sym (length-sets now p rest) ∙ ap length (l .laid) ∙ length-sets lent at all
 
-    pub fits-value : at + length toValue ≤ room
-    fits-value = omega (arith, fits-feed)
+  pub left-none : {rest : List ℕ} → rest ≡ [] → Left all at lent rest p now → Laid all at lent p now
+  left-none {rest} q l =
+      let none = ap length q in
+      record { behind = omega (arith, l .place); laid = rw q at (l .laid) }
 
-    pub fits-address : at + length toAddress ≤ room
-    fits-address = omega (arith, fits-value, length-append toAddress (field (names kind 2) value))
+  -- A field of a line, by what the code found it to be: named or not.
+  module _ (e : Entry) (f : Field) (fs : List Field) {b : Bool} (q : b ≡ named e f) where
+    pub field-room : Left all at lent (cells e (f ∷ fs)) p now → p + length (field b (valueOf e f)) ≤ length now
+    unfolding cells
+    field-room l = rw q (omega (arith, l .fits, length-append (field (named e f) (valueOf e f)) (cells e fs)))
 
-    pub fits-id : at + length toId ≤ room
-    fits-id = omega (arith, fits-address, length-append toId (field (names kind 1) address))
+    pub field-behind : {after : List ℕ} {r : ℕ} → Left all at lent (cells e (f ∷ fs)) p now → Laid (field b (valueOf e f)) p now r after
+        → Left all at lent (cells e fs) r after
+    unfolding cells
+    field-behind l put = left-behind (cells e fs) l (rw q at put)
 
-    pub fits-column : at + length toColumn ≤ room
-    fits-column = omega (arith, fits-id, length-append toColumn (field (names kind 0) id))
-
-    pub fits-name : at + length (nameOf kind) ≤ room
-    fits-name = omega (arith, fits-column, length-append (nameOf kind) (field true column))
+  -- The line feed.
+  pub line-end : (e : Entry) → Left all at lent (cells e []) p now → Laid all at lent (p + 1) (set now p feed)
+  unfolding cells
+  line-end e l = record { behind = l .place; laid = l .laid }

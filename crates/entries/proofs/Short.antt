@@ -1,50 +1,31 @@
 -- How long an entry's line can get. Assumes nothing.
-use mathlib.Core.Path.{_≡_, ap}
 use mathlib.Core.Bool.{Bool, true, false}
-use mathlib.Core.List.{_∷_}
-use mathlib.Core.Option.{Option, some}
 use Prim.Native.Nat.{ℕ, suc, _+_, _^_, _≤_, _<_}
 use native.Mathlib.Omega.{arith}
-use lib.ListN.{length, length-append}
-use Rattle.line.specs.Entries.{Kind, number, table, Entry}
-use Rattle.line.specs.Text.{field, entryLine, lineOf}
-use Rattle.line.proofs.Codec.{numbered-own}
+use lib.ListN.{length}
+use Rattle.line.specs.Entries.{Entry}
+use Rattle.line.specs.Layout.{Field, named}
+use Rattle.line.specs.Text.{field, entryLine}
 use Rattle.print.proofs.Decimal.{decimal-short}
-use Rattle.names.specs.Names as Names
-use Rattle.names.specs.Names.{isKind, isOne, kindLine, nameOf}
-use Rattle.names.proofs.Numbers.{kind-low, name-short}
-
--- A kind's name has at most eight bytes.
-module _ (k : Kind) where
-  own-name : nameOf (number k) ≡ table k .name
-  unfolding nameOf kindLine
-  own-name = ap (λ (o : Option Kind). Names.lineOf o .name) (numbered-own k)
-
-  own-kind : isKind (number k) ≡ true
-  unfolding isKind
-  own-kind = ap isOne (numbered-own k)
-
-  kind-short : length (table k .name) ≤ 8
-  kind-short = rw (← own-name) (name-short (number k) (omega (arith, kind-low (number k) own-kind)))
+use Rattle.names.proofs.Numbers.{kind-short}
+use Rattle.entries.proofs.Parts.{line-length}
 
 -- A field of at most d + 1 digits has its TAB before it, and `-` has one byte.
-field-short : (named : Bool) (d n : ℕ) → n < 10 ^ suc d → length (field named n) ≤ d + 2
+field-short : (b : Bool) (d n : ℕ) → n < 10 ^ suc d → length (field b n) ≤ d + 2
 unfolding field
 field-short true d n h = omega (arith, decimal-short d n h)
 field-short false d n h = omega arith
 
 -- The name, five digits of the column, three of each other field, their TABs and the line feed.
-pub line-short : (e : Entry) → e .column < 10 ^ 5 → e .id < 10 ^ 3 → e .address < 10 ^ 3 → e .value < 10 ^ 3
-    → length (lineOf (some e)) ≤ 27
-unfolding entryLine
+pub line-short : (e : Entry) → e .place .column < 10 ^ 5 → e .event .id < 10 ^ 3 → e .event .address < 10 ^ 3 → e .event .value < 10 ^ 3
+    → length (entryLine e) ≤ 27
 line-short e c i a v =
-    let kind = table (e .kind) in
-    simp length-append
-    (omega (
+    omega (
       arith,
-      kind-short (e .kind),
-      field-short true 4 (e .column) c,
-      field-short (kind .has-id) 2 (e .id) i,
-      field-short (kind .has-address) 2 (e .address) a,
-      field-short (kind .has-value) 2 (e .value) v,
-    ))
+      line-length e,
+      kind-short (e .event .kind),
+      field-short (named e Field.column) 4 (e .place .column) c,
+      field-short (named e Field.id) 2 (e .event .id) i,
+      field-short (named e Field.address) 2 (e .event .address) a,
+      field-short (named e Field.value) 2 (e .event .value) v,
+    )

@@ -4,7 +4,8 @@ use mathlib.Core.List.{List, [], _∷_}
 use Prim.Native.Nat.{ℕ}
 use lib.Dec.{ltb}
 use lib.ListN.{length}
-use Rattle.line.specs.Text.{isList, listText}
+use Rattle.line.specs.Layout.{current, entriesIn, isList}
+use Rattle.line.specs.Text.{listText}
 use Rattle.job.specs.Refusals.{Rule, when}
 use Rattle.job.specs.declared.Outcome.{Outcome}
 use Rattle.print.specs.Printed.{Printed}
@@ -12,8 +13,10 @@ use Rattle.print.specs.Printed.{Printed}
 -- "List to text: 12, 9." 12: "list length no multiple of 6, or a kind outside 1 to 16"; 9: "the result needs more room than was lent, and
 -- only then".
 unfoldable pub listRefusals : (list : List ℕ) → (room : ℕ) → List Rule
-listRefusals list room = when (not (isList list)) 12 ∷ when (ltb room (length (listText list))) 9 ∷ []
+listRefusals list room =
+    when (not (isList current list)) 12 ∷ when (ltb room (length (listText (entriesIn current list)))) 9 ∷ []
 
 -- What list to text promises.
 abbrev pub ListPrinted : (list out : List ℕ) → Outcome → (after : List ℕ) → Type 0
-ListPrinted list out answer after = Printed (listRefusals list (length out)) (listText list) out answer after
+ListPrinted list out answer after =
+    Printed (listRefusals list (length out)) (listText (entriesIn current list)) out answer after

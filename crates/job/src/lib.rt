@@ -11,6 +11,9 @@ ghost use Rattle.job.specs.Rows.{rowRules, wrongRows, wrongRow};
 // Columns: "A row has 0 to 4,096 columns."
 pub const COLUMN_LIMIT: usize = 4096;
 
+// Entries: "Six bytes", the width of the current layout.
+pub const ENTRY_BYTES: usize = 6;
+
 pub enum Outcome {
     // So many columns, bytes or entries were made.
     Made(usize),

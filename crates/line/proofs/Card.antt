@@ -1,6 +1,6 @@
 -- The bench card holds: one theorem over its fifteen cases, by computation. And which slave its nine locks number. Assumes nothing.
 use mathlib.Core.Path.{_≡_, refl}
-use mathlib.Core.List.{List, [], _∷_, _++_, map}
+use mathlib.Core.List.{[], _∷_, _++_, map}
 use mathlib.Core.Option.{Option, none, some}
 use Prim.Native.Nat.{ℕ, _+_}
 use lib.ListN.{replicate}
@@ -8,7 +8,7 @@ use Rattle.line.specs.Limits.{idCount, lockLast}
 use Rattle.line.specs.Bits.{bit, push}
 use Rattle.line.specs.Rest.{Timed, frame, judge, timer}
 use Rattle.line.specs.Division.{feed, divide, remainder, check}
-use Rattle.line.specs.Card.{Line, lockRow, blank, found, card}
+use Rattle.line.specs.Card.{lockRow, blank, found, card}
 use Rattle.line.specs.Slave
 use Rattle.line.specs.Chain
 use Rattle.line.specs.Reader

@@ -18,9 +18,11 @@ use Rattle.line.specs.Rest.{judge, timer}
 use Rattle.line.specs.Division.{feed, divide, remainder, check, word, fits, byteOf}
 use Rattle.line.specs.Header.{header}
 use Rattle.line.specs.Memory.{Memory, allows, holds, stored}
-use Rattle.line.specs.Building.{Request, read, write, command, readBytes, writeBytes, frameOf, rowFor}
-use Rattle.line.specs.Entries.{Kind, Entry, entry, bytes, bytesOf, numbered, fromBytes}
-use Rattle.line.specs.Text.{digitsIn, decimal, field, entryLine, entryLines, isList}
+use Rattle.line.specs.Building.{read, write, command, readBytes, writeBytes, frameOf, rowFor}
+use Rattle.line.specs.Entries.{Kind, event, opened, Entry, bytes, numbered}
+use Rattle.line.specs.Pieces.{inBytes, numberAt, cut, pieces, isWhole}
+use Rattle.line.specs.Layout.{current, fieldBytes, bytesOf, entriesOf, entriesIn, allEntries, isList}
+use Rattle.line.specs.Text.{digitsIn, decimal, field, cells, entryLine, entryLines}
 use Rattle.line.specs.Slave
 use Rattle.line.specs.Chain
 use Rattle.line.specs.Reader
@@ -57,6 +59,10 @@ reading = rowFor (read 0 0x44 1) ++ false ∷ []
 
 writing : List Bool
 writing = rowFor (write 0 0x44 (0x5B ∷ []))
+
+-- An entry: its kind, column, id, address and value.
+unfoldable pub entry : Kind → (column id address value : ℕ) → Entry
+entry kind column id address value = record { place = opened column; event = event kind id address value }
 
 locked : Entry
 locked = entry Kind.lock 23 0 0 1
@@ -117,7 +123,7 @@ samples =
     ∷ []
 
 pub samples-hold : map listed samples ≡ map (λ s. s .shows) samples
-unfolding samples sample listed flips flip reading writing locked ended holding one columnsOf rowFor frameOf readBytes writeBytes word check remainder divide feed bit bits push fits byteOf header allows holds stored judge timer Slave.lock Slave.called Slave.more Slave.speak Slave.step Chain.pass Chain.answers Chain.switchedOn Chain.answersFrom Reader.seen Reader.locked Reader.headed Reader.asked Reader.look Reader.step Reader.columns Reader.entries Reader.listFrom
+unfolding samples sample entry listed flips flip reading writing locked ended holding one columnsOf rowFor frameOf readBytes writeBytes word check remainder divide feed bit bits push fits byteOf header allows holds stored judge timer Slave.lock Slave.called Slave.more Slave.speak Slave.step Chain.pass Chain.answers Chain.switchedOn Chain.answersFrom Reader.seen Reader.locked Reader.headed Reader.asked Reader.look Reader.step Reader.columns Reader.entries Reader.listFrom
 samples-hold = refl
 
 -- A kind, and what is expected of its entry in column 300 with id 5, address 68 and value 90: its six bytes, and its line.
@@ -151,20 +157,20 @@ kindLines =
     ∷ kindLine Kind.closed 16 5 68 0 "closed\t300\t5\t68\t-\n"
     ∷ []
 
-pub kinds-hold : map (λ s. bytesOf (entry (s .kind) 300 5 68 90)) kindLines ≡ map (λ s. s .six) kindLines
-unfolding kindLines kindLine bytesOf
+pub kinds-hold : map (λ s. bytesOf current (entry (s .kind) 300 5 68 90)) kindLines ≡ map (λ s. s .six) kindLines
+unfolding kindLines kindLine entry bytesOf fieldBytes inBytes
 kinds-hold = refl
 
-pub kinds-print : map (λ s. entryLines (s .six)) kindLines ≡ map (λ s. bytes (s .line)) kindLines
-unfolding kindLines kindLine numbered fromBytes digitsIn decimal field entryLine entryLines
+pub kinds-print : map (λ s. entryLines (entriesIn current (s .six))) kindLines ≡ map (λ s. bytes (s .line)) kindLines
+unfolding kindLines kindLine numbered pieces cut numberAt entriesIn entriesOf digitsIn decimal field cells entryLine entryLines
 kinds-print = refl
 
 -- Refusal 12: lengths 0 to 12, of kind 1 throughout; kinds 0, 1, 16 and 17.
-lengths-hold : tabulate (λ n. isList (replicate n 1)) 0 13
+lengths-hold : tabulate (λ n. isList current (replicate n 1)) 0 13
     ≡ true ∷ false ∷ false ∷ false ∷ false ∷ false ∷ true ∷ false ∷ false ∷ false ∷ false ∷ false ∷ true ∷ []
-unfolding isList fromBytes numbered
+unfolding isList isWhole allEntries pieces cut numberAt numbered
 lengths-hold = refl
 
-numbers-hold : map (λ k. isList (k ∷ 0 ∷ 0 ∷ 0 ∷ 0 ∷ 0 ∷ [])) (0 ∷ 1 ∷ 16 ∷ 17 ∷ []) ≡ false ∷ true ∷ true ∷ false ∷ []
-unfolding isList fromBytes numbered
+numbers-hold : map (λ k. isList current (k ∷ 0 ∷ 0 ∷ 0 ∷ 0 ∷ 0 ∷ [])) (0 ∷ 1 ∷ 16 ∷ 17 ∷ []) ≡ false ∷ true ∷ true ∷ false ∷ []
+unfolding isList isWhole allEntries pieces cut numberAt numbered
 numbers-hold = refl

@@ -14,7 +14,7 @@ use Rattle.line.specs.Slave.{Slave}
 use Rattle.line.specs.Chain.{switchedOn, answersFrom, memoriesAfter}
 use Rattle.line.specs.Chain
 use Rattle.line.specs.Building.{read, write, command, rowFor}
-use Rattle.line.specs.Entries.{Kind}
+use Rattle.line.specs.Entries.{Kind, opened}
 use Rattle.line.specs.Reader.{Phase, Column, columns, listFrom, begun}
 use Rattle.line.specs.Reader
 use Rattle.line.specs.Account.{account}
@@ -71,22 +71,22 @@ late-opening cs k j f = from-first cs k j f ∙ sym (from-run cs j (f .run))
 -- .. and nothing where there is no such run.
 pub late-nothing : (cs : List Column) (k : ℕ) → NoRun (masters cs) k → listFrom k cs ≡ []
 unfolding listFrom
-late-nothing cs k f = sleeps (drop k cs) 0 k (omega arith) (none-later (masters cs) _ k k (sym (masters-drop k cs)) (omega arith) f)
+late-nothing cs k f = sleeps (drop k cs) 0 (opened k) (omega arith) (none-later (masters cs) _ k k (sym (masters-drop k cs)) (omega arith) f)
 
 -- Two runs with the same rights and master row that differ only in registers without the read right give the same answer row.
 pub two-runs : (ks ks′ : List Memory) (row : List Bool) → Alike ks ks′ → answersFrom ks row ≡ answersFrom ks′ row
 unfolding answersFrom
 two-runs ks ks′ row h = same-answers (switchedOn ks) (switchedOn ks′) row (twins ks ks′ h)
 
--- From any state and at any column, columns that begin with fourteen master zeros bring the reader to rest, whatever their answers ..
-pub reader-rests : (s : Timed Phase) (c : ℕ) (cs : List Column) → Zeros restZeros (masters cs) → Reader.after s c (take restZeros cs) ≡ rest
-reader-rests s c cs zeros = rests restZeros s c cs (fourteen begun s) zeros
+-- From any state, columns that begin with fourteen master zeros bring the reader to rest, whatever their answers ..
+pub reader-rests : (s : Timed Phase) (cs : List Column) → Zeros restZeros (masters cs) → Reader.after s (take restZeros cs) ≡ rest
+reader-rests s cs zeros = rests restZeros s cs (fourteen begun s) zeros
 
 -- .. and fourteen zeros bring every slave of any chain to rest, from any states.
 pub slaves-rest : (ss : List Slave) → Every (λ s. s .state ≡ rest) (Chain.after ss (replicate restZeros false))
 slaves-rest ss = soon-after restZeros ss (all-soon ss)
 
 -- The chain's account never holds lockodd, odd, mute, readbad or echo.
-pub no-faults : (ks : List Memory) (row : List Bool) → Every Sound (account ks row)
+pub no-faults : (ks : List Memory) (row : List Bool) → Every (λ e. Sound (e .event)) (account ks row)
 unfolding account
-no-faults ks row = fair-along (switchedOn ks) powerOn 0 row
+no-faults ks row = fair-along (switchedOn ks) powerOn (opened 0) row

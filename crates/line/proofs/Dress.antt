@@ -1,15 +1,15 @@
 -- A chain told by place: every slave's state as a function of its place, far slave first. What one column does to such a chain
 -- follows from what it does to one slave, where the bit that arrives at each place is known. Assumes nothing.
-use mathlib.Core.Path.{_≡_, refl, ap, _∙_}
+use mathlib.Core.Path.{_≡_, refl, ap}
 use mathlib.Core.Bool.{Bool, false}
-use mathlib.Core.List.{List, [], _∷_, map}
+use mathlib.Core.List.{List, [], _∷_}
 use Prim.Native.Nat.{ℕ, suc, _+_}
 use native.Mathlib.Nat.{add-zero, zero-add, add-suc, suc-add}
 use lib.ListN.{length}
 use Rattle.line.specs.Rest.{Timed, power}
 use Rattle.line.specs.Memory.{Memory}
 use Rattle.line.specs.Slave.{Slave, Step, Phase, reply, slave, step}
-use Rattle.line.specs.Chain.{Passed, behind, pass, column, switchedOn, memories}
+use Rattle.line.specs.Chain.{Passed, pass, column, switchedOn, memories}
 
 -- The chain over memories ks, the first of them at place i, in which the slave at each place is in that place's state.
 unfoldable pub dress : (ℕ → Timed Phase) → ℕ → List Memory → List Slave

@@ -11,7 +11,7 @@ use Rattle.line.specs.Rest.{Timed, judge}
 use Rattle.line.specs.Division.{dataBits, fits, byteOf}
 use Rattle.line.specs.Header.{Header, wrong, access, command, header}
 use Rattle.line.specs.Memory.{Memory, allows}
-use Rattle.line.specs.Entries.{Kind, Entry, entry}
+use Rattle.line.specs.Entries.{Kind, Event, event, Place, onward}
 use Rattle.line.specs.Slave.{Slave}
 use Rattle.line.specs.Chain.{column, memories}
 use Rattle.line.specs.Account.{Phase, deaf, locks, head, askR, askW, byteS, carries, askP, Told, slaveAt, moreAt, headed, asked, tell, begun, step, along}
@@ -23,49 +23,50 @@ use Rattle.line.proofs.Machine.{says-so, every-note}
 abbrev pub faults : List Kind
 faults = Kind.lockodd ∷ Kind.odd ∷ Kind.mute ∷ Kind.readbad ∷ Kind.echo ∷ []
 
--- The entry is of one of these kinds.
-abbrev pub among : List Kind → Entry → Bool
+-- The event is of one of these kinds.
+abbrev pub among : List Kind → Event → Bool
 among [] e = false
 among (k ∷ ks) e = is k e || among ks e
 
--- An entry is sound if it is none of them.
-abbrev pub Sound : Entry → Type 0
+-- An event is sound if it is none of them.
+abbrev pub Sound : Event → Type 0
 Sound e = among faults e ≡ false
 
 -- What a column tells is sound.
 abbrev Fair : Told → Type 0
 Fair t = IfAny Sound (t .says)
 
-fair-headed : (c : ℕ) (h : Header) → Fair (headed c h)
+fair-headed : (h : Header) → Fair (headed h)
 unfolding headed
-fair-headed c wrong = refl
-fair-headed c (access id address) = tt
-fair-headed c (command ids cmd) = refl
+fair-headed wrong = refl
+fair-headed (access id address) = tt
+fair-headed (command ids cmd) = refl
 
-fair-asked : (c : ℕ) (o : Option Memory) (id address : ℕ) (w : Bool) → Fair (asked c o id address w)
+fair-asked : (o : Option Memory) (id address : ℕ) (w : Bool) → Fair (asked o id address w)
 unfolding asked
-fair-asked c none id address w = refl
-fair-asked c (some k) id address w = either Fair (allows k w address) tt refl
+fair-asked none id address w = refl
+fair-asked (some k) id address w = either Fair (allows k w address) tt refl
 
-fair-tell : (c : ℕ) (ks : List Memory) (p : Phase) (m : Bool) → Fair (tell c ks p m)
+fair-tell : (ks : List Memory) (p : Phase) (m : Bool) → Fair (tell ks p m)
 unfolding tell
-fair-tell c ks deaf m = tt
-fair-tell c ks (locks column so-far) m = either Fair (ltb column lockLast) tt refl
-fair-tell c ks (head column so-far) m = either Fair (ltb column headerColumns) tt (fair-headed c (header (push so-far m)))
-fair-tell c ks (askR id address) m = tt
-fair-tell c ks (askW id address r) m = either Fair (Bool·beq r m) refl (fair-asked c (slaveAt ks id) id address m)
-fair-tell c ks (byteS write id address nth) false = tt
-fair-tell c ks (byteS write id address nth) true = tt
-fair-tell c ks (carries write id address nth (suc left) so-far) m = tt
-fair-tell c ks (carries false id address nth zero so-far) m = refl
-fair-tell c ks (carries true id address nth zero so-far) m =
-    either (λ k. Sound (entry k c id address (byteOf (push so-far m)))) (fits dataBits (push so-far m)) refl refl
-fair-tell c ks (askP write good id address nth) m = either Fair (good && moreAt (slaveAt ks id) write address nth) tt refl
+fair-tell ks deaf m = tt
+fair-tell ks (locks column so-far) m = either Fair (ltb column lockLast) tt refl
+fair-tell ks (head column so-far) m = either Fair (ltb column headerColumns) tt (fair-headed (header (push so-far m)))
+fair-tell ks (askR id address) m = tt
+fair-tell ks (askW id address r) m = either Fair (Bool·beq r m) refl (fair-asked (slaveAt ks id) id address m)
+fair-tell ks (byteS write id address nth) false = tt
+fair-tell ks (byteS write id address nth) true = tt
+fair-tell ks (carries write id address nth (suc left) so-far) m = tt
+fair-tell ks (carries false id address nth zero so-far) m = refl
+fair-tell ks (carries true id address nth zero so-far) m =
+    either (λ k. Sound (event k id address (byteOf (push so-far m)))) (fits dataBits (push so-far m)) refl refl
+fair-tell ks (askP write good id address nth) m = either Fair (good && moreAt (slaveAt ks id) write address nth) tt refl
 
-pub fair-along : (ss : List Slave) (s : Timed Phase) (c : ℕ) (row : List Bool) → Every Sound (along ss s c row)
+pub fair-along : (ss : List Slave) (s : Timed Phase) (p : Place) (row : List Bool) → Every (λ e. Sound (e .event)) (along ss s p row)
 unfolding along step
-fair-along ss s c [] = tt
-fair-along ss s c (m ∷ row) =
-    every-note Sound (step c (memories ss) s m .says) (along (column ss m .slaves) (step c (memories ss) s m .state) (suc c) row)
-    (says-so (IfAny Sound) (λ p. tell c (memories ss) p m) tt refl (λ p. fair-tell c (memories ss) p m) (judge begun s m))
-    (fair-along (column ss m .slaves) (step c (memories ss) s m .state) (suc c) row)
+fair-along ss s p [] = tt
+fair-along ss s p (m ∷ row) =
+    every-note (λ e. Sound (e .event)) p (step (memories ss) s m .says)
+    (along (column ss m .slaves) (step (memories ss) s m .state) (onward s m p) row)
+    (says-so (IfAny Sound) (λ q. tell (memories ss) q m) tt refl (λ q. fair-tell (memories ss) q m) (judge begun s m))
+    (fair-along (column ss m .slaves) (step (memories ss) s m .state) (onward s m p) row)

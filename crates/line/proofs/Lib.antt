@@ -4,6 +4,7 @@ pub mod Drawn
 pub mod Cases
 pub mod Division
 pub mod Words
+pub mod Pieces
 pub mod Codec
 pub mod Text
 pub mod Printed

@@ -7,7 +7,7 @@ use mathlib.Core.Option.{Option, none, some}
 use Prim.Native.Nat.{ℕ, suc}
 use Rattle.line.specs.Rest.{Timed, power, rest, frame, Judged, still, ends, meant, timer, judge}
 use Rattle.line.specs.Machine.{Turn, stepped}
-use Rattle.line.specs.Entries.{Entry, note}
+use Rattle.line.specs.Entries.{Event, Place, Entry, note}
 use Rattle.laws.proofs.Every.{Every, IfAny, looked-up}
 use Rattle.line.proofs.Rest.{moved, Soon, soon-moved}
 
@@ -54,8 +54,9 @@ module _ {P : Type 0} (H : P → Type 0) where
         judged (λ j. At (stepped silent ended turn j .state) × Q (stepped silent ended turn j .says))
         (λ s h. (h, quiet)) (tt, end) (λ z p h. each p h)
 
-module _ (Q : Entry → Type 0) where
+module _ (Q : Entry → Type 0) (p : Place) where
   -- A column's entry, if it has one, before the others.
-  pub every-note : (o : Option Entry) (es : List Entry) → IfAny Q o → Every Q es → Every Q (note o es)
+  pub every-note : (o : Option Event) (es : List Entry) → IfAny (λ e. Q (record { place = p; event = e })) o → Every Q es
+      → Every Q (note p o es)
   every-note none es q qs = qs
   every-note (some e) es q qs = (q, qs)

@@ -3,16 +3,17 @@
 use mathlib.Core.Path.{_≡_, refl}
 use mathlib.Core.List.{List, [], _∷_, map}
 use Prim.Native.Nat.{ℕ}
-use Rattle.line.specs.Entries.{Kind, Entry, entry, bytes, bytesOf, numbered, fromBytes, listBytes}
-use Rattle.line.specs.Text.{columnLines, rowsText, begins, fault, firstBad, badLine, digitsIn, decimal, field, entryLine, entryLines, listText}
+use Rattle.line.specs.Entries.{Kind, Entry, bytes}
+use Rattle.line.specs.Text.{columnLines, rowsText, begins, fault, firstBad, badLine, digitsIn, decimal, field, cells, entryLine, entryLines, listText}
+use Rattle.line.proofs.Cases.{entry}
 
 -- Bench card: what the indexing program "prints whole".
 bench : List Entry
 bench = entry Kind.lock 23 0 0 1 ∷ entry Kind.read 44 0 68 90 ∷ entry Kind.end 46 0 0 0 ∷ []
 
-bench-prints : listText (listBytes bench)
+bench-prints : listText bench
     ≡ bytes "event\tcolumn\tid\taddress\tvalue\nlock\t23\t-\t-\t1\nread\t44\t0\t68\t90\nend\t46\t-\t-\t-\n"
-unfolding bench listText listBytes bytesOf entryLines fromBytes numbered entryLine field decimal digitsIn
+unfolding bench entry listText entryLines entryLine cells field decimal digitsIn
 bench-prints = refl
 
 rows-print : rowsText (0 ∷ 1 ∷ []) (1 ∷ 1 ∷ []) ≡ bytes "cdm\tcds\n0\t1\n1\t1\n"

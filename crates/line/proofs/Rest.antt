@@ -1,6 +1,5 @@
 -- Rest: "From any moment, fourteen zeros bring every slave and the reader to rest; they stay there while zeros last." And not sooner:
 -- zeros that do not make fourteen in a row bring nobody there. Stated for any machine behind Rest's judge. Assumes nothing.
-use mathlib.Core.Logic.{⊎-elim}
 use mathlib.Core.Path.{_≡_, refl, ap, _∙_}
 use mathlib.Core.Bool.{Bool, true, false}
 use mathlib.Core.List.{List, [], _∷_}

@@ -17,7 +17,7 @@ use Rattle.line.specs.Machine.{taken, gives}
 use Rattle.line.specs.Division.{dataBits, topBit, word, fits, byteOf}
 use Rattle.line.specs.Header.{Header, wrong, access, command, header}
 use Rattle.line.specs.Memory.{Memory, allows, holds, stored}
-use Rattle.line.specs.Entries.{Kind, Entry, entry}
+use Rattle.line.specs.Entries.{Kind, Event, event}
 use Rattle.line.specs.Slave
 use Rattle.line.specs.Chain
 use Rattle.line.specs.Reader
@@ -84,12 +84,12 @@ pub data Together (ks : List Memory) : Timed Account.Phase → (ℕ → Timed Sl
   in-frame : (z : ℕ) {p : Account.Phase} {f : ℕ → Slave.Phase} {r : Reader.Phase} → Sim ks p f r
       → Together ks (frame z p) (framed z f) (frame z r)
 
--- The memories after an entry, if there is one.
-abbrev pub kept : List Memory → Option Entry → List Memory
+-- The memories after an event, if there is one.
+abbrev pub kept : List Memory → Option Event → List Memory
 kept ks none = ks
 kept ks (some e) = put ks e
 
--- One column: the account's step, and the reader's step at each answer. The chain keeps what the entry says, the reader says what
+-- One column: the account's step, and the reader's step at each answer. The chain keeps what the event says, the reader says what
 -- the account says, a read shows what stands there, and the three go together again.
 pub record Next (ks : List Memory) (f : ℕ → Timed Slave.Phase) (m : Bool) (told : Account.Step) (looked : Bool → Reader.Step) : Type 0 where
   pub chain : ℕ → Timed Slave.Phase
@@ -117,11 +117,11 @@ ladder-next n column =
     (λ r. let end : column - lockFirst ≡ n = omega (arith, ltb-false) in rw (b, q, r, end, lt-ltb n j′ (omega (arith, ltb-false))))))
 
 -- After IDL8 the reader has the lock value.
-ladder-locked : (n column c w : ℕ) → column ≡ lockLast
-    → Reader.locked c column w (Reader.shown column (ladder n (column - lockFirst)) (arrives column n))
-    ≡ gives (entry Kind.lock c 0 0 (min (idCount + 1) n)) (Reader.head (column + 1) w (min (idCount + 1) n))
+ladder-locked : (n column w : ℕ) → column ≡ lockLast
+    → Reader.locked column w (Reader.shown column (ladder n (column - lockFirst)) (arrives column n))
+    ≡ gives (event Kind.lock 0 0 (min (idCount + 1) n)) (Reader.head (column + 1) w (min (idCount + 1) n))
 unfolding ladder Reader.locked
-ladder-locked n column c w e =
+ladder-locked n column w e =
     rw (ladder-next n column, e)
     (tested (ltb n (idCount + 1))
     (λ q. let few : min (idCount + 1) n ≡ n = omega (arith, ltb-true) in rw (q, few))
@@ -143,7 +143,7 @@ pub beq-not : (b : Bool) → Bool·beq (not b) b ≡ false
 beq-not true = refl
 beq-not false = refl
 
-module _ (ks : List Memory) (bs : Bytes ks) (c z z′ : ℕ) where
+module _ (ks : List Memory) (bs : Bytes ks) (z z′ : ℕ) where
   -- A column of a frame that is not the fourteenth zero.
   to : {m : Bool} {f : ℕ → Slave.Phase} {T : Account.Told} {L : Bool → Reader.Look} (g : ℕ → Slave.Phase) (x : Bool)
       → Chain.column (dress (framed z f) 0 ks) m ≡ passTo (dress (framed z′ g) 0 (kept ks (T .says))) x
@@ -180,7 +180,7 @@ module _ (ks : List Memory) (bs : Bytes ks) (c z z′ : ℕ) where
   -- The header's last column, for each header.
   headed : {m : Bool} {f : ℕ → Slave.Phase} (h : Header) → LowId h
       → Chain.column (dress (framed z f) 0 ks) m ≡ passTo (dress (framed z′ (λ i. Slave.called h (number i idCount))) 0 ks) false
-      → Next ks (framed z f) m (taken z′ (Account.headed c h)) (λ x. taken z′ (Reader.headed c h (lockOf ks)))
+      → Next ks (framed z f) m (taken z′ (Account.headed h)) (λ x. taken z′ (Reader.headed h (lockOf ks)))
   unfolding Account.headed Reader.headed Slave.called put
   headed wrong low passes = to (λ i. Slave.deaf) false passes all-deaf refl bs tt
   headed (command ids cmd) low passes = to (λ i. Slave.deaf) false passes all-deaf refl bs tt
@@ -198,7 +198,7 @@ module _ (ks : List Memory) (bs : Bytes ks) (c z z′ : ℕ) where
 
   -- One column of a frame, in each of the cases above.
   pub advance : {p : Account.Phase} {f : ℕ → Slave.Phase} {r : Reader.Phase} → Sim ks p f r → (m : Bool) → timer z m ≡ some z′
-      → Next ks (framed z f) m (taken z′ (Account.tell c ks p m)) (λ x. taken z′ (Reader.look c r m x))
+      → Next ks (framed z f) m (taken z′ (Account.tell ks p m)) (λ x. taken z′ (Reader.look r m x))
   unfolding Account.tell Account.asked Reader.look Reader.asked Slave.speak put
   advance all-deaf m t = to (λ i. Slave.deaf) false (deafened m t) all-deaf refl bs tt
   advance (at-locks column w h) m t =
@@ -213,8 +213,8 @@ module _ (ks : List Memory) (bs : Bytes ks) (c z z′ : ℕ) where
       rw q
       (to (λ i. Slave.head (column + 1) (push w m) (number i idCount)) (arrives column (length ks))
       (rw (q, next) at (lock-column ks z z′ column w m t h))
-      (rw (ladder-locked (length ks) column c (push w m) last) (at-head (column + 1) (push w m)))
-      (rw (ladder-locked (length ks) column c (push w m) last)) bs tt))
+      (rw (ladder-locked (length ks) column (push w m) last) (at-head (column + 1) (push w m)))
+      (rw (ladder-locked (length ks) column (push w m) last)) bs tt))
   advance (at-head column w) m t =
       tested (ltb column headerColumns)
       (λ q. rw q

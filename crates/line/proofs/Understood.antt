@@ -18,10 +18,10 @@ use Rattle.line.specs.Memory.{Memory, allows, holds, stored}
 use Rattle.line.specs.Slave.{more}
 use Rattle.line.specs.Building.{opening, readBytes, writeBytes, frameOf, rowFor}
 use Rattle.line.specs.Building
-use Rattle.line.specs.Entries.{Kind, Entry, entry}
+use Rattle.line.specs.Entries.{Kind, event, Entry}
 use Rattle.line.specs.Account.{Phase, askR, byteS, askP, Told, headed, asked, tell, begun, step, account}
 use Rattle.line.specs.Replay.{put}
-use Rattle.line.specs.Understood.{Allowed, lockShown, commandShown, byteColumn, byteShown, bytesShown, standing, closing}
+use Rattle.line.specs.Understood.{frameAt, inFrame, Allowed, lockShown, commandShown, byteColumn, byteShown, bytesShown, standing, closing}
 use Rattle.line.proofs.Words.{push-bit, word-lt, byte-word, header-access, header-command}
 use Rattle.line.proofs.Division.{accepted}
 use Rattle.laws.proofs.Every.{Every, tested}
@@ -43,18 +43,23 @@ pushed-bits (suc n) w h = ap (λ (u : ℕ). pushed u (bits n w)) (push-bit n w h
 collected : (n w : ℕ) → w < 2 ^ 16 → w < 2 ^ n → pushed 0 (bits n w) ≡ w
 collected n w h l = rw (div-eq-of-lt l) at (pushed-bits n w h)
 
+-- An entry given, before what follows.
+abbrev gave : {S : Type 0} → Entry → Walk S → Walk S
+gave e w = noted (e .place) (some (e .event)) w
+
 module _ (ks : List Memory) (v : ℕ) (next : List Bool) (small : v < 2 ^ headerBits) where
   -- What a header says in its last column, and what follows it.
   from-header : Header → Walk Phase
   from-header h =
-      let t : Told = headed (restZeros + headerColumns) h in
-      noted (t .says) (phases (kept ks (t .says)) (t .next) (restZeros + headerColumns + 1) next)
+      let t : Told = headed h in
+      noted (frameAt (restZeros + headerColumns)) (t .says)
+      (phases (kept ks (t .says)) (t .next) (frameAt (restZeros + headerColumns + 1)) next)
 
-  header-shown : phases ks begun (restZeros + 1) (bits headerColumns (word headerBits v) ++ next)
-      ≡ noted (some (lockShown ks)) (from-header (header (word headerBits v)))
+  header-shown : phases ks begun (frameAt (restZeros + 1)) (bits headerColumns (word headerBits v) ++ next)
+      ≡ gave (lockShown ks) (from-header (header (word headerBits v)))
   unfolding phases tell bits put pushed from-header
   header-shown =
-      ap (λ (w : ℕ). noted (some (lockShown ks)) (from-header (header w)))
+      ap (λ (w : ℕ). gave (lockShown ks) (from-header (header w)))
       (collected headerColumns (word headerBits v) (omega (arith, word-lt headerBits v small)) (word-lt headerBits v small))
 
   -- Fourteen zeros and S before it.
@@ -63,7 +68,7 @@ module _ (ks : List Memory) (v : ℕ) (next : List Bool) (small : v < 2 ^ header
   unfolding walk step judge timer calm
   opening-shown bs z =
       account-walk ks _ bs
-      ∙ ap (λ (w : Walk _). w .told) (walk-phases ks begun 0 (restZeros + 1) (bits headerColumns (word headerBits v) ++ next) z)
+      ∙ ap (λ (w : Walk _). w .told) (walk-phases ks begun 0 (frameAt (restZeros + 1)) (bits headerColumns (word headerBits v) ++ next) z)
       ∙ ap (λ (w : Walk _). w .told) header-shown
 
 -- The kind of a byte's entry, and the memory after it; the rights are what they were.
@@ -85,22 +90,22 @@ unfolding Carried after standing
 carried-next false k address i v vs h = rw (← add-assoc address i 1) (tail-eq-of-cons-eq h)
 carried-next true k address i v vs h = h .1
 
--- An entry given, and what follows it.
-abbrev gave : List Memory → Entry → Phase → List Bool → Walk Phase
-gave ks e p next = noted (some e) (phases (put ks e) p (suc (e .column)) next)
+-- An entry of the frame given, and what follows it from its phase on.
+abbrev gives : List Memory → Entry → Phase → List Bool → Walk Phase
+gives ks e q next = gave e (phases (put ks (e .event)) q (frameAt (suc (e .place .column))) next)
 
 -- Byte i up to its P.
 byte-shown : (write : Bool) (i v : ℕ) (vs : List ℕ) {ks : List Memory} {k : Memory} {id address count : ℕ}
     → Allowed ks k write id address count → Carried write k (address + i) (v ∷ vs)
-    → phases ks (byteS write id (address + i) (i + 1)) (byteColumn i) (carrying write (v ∷ vs))
-    ≡ gave ks (byteShown (kindOf write) id address i v) (askP write true id (address + i) (i + 1)) (false ∷ carrying write vs)
+    → phases ks (byteS write id (address + i) (i + 1)) (frameAt (byteColumn i)) (carrying write (v ∷ vs))
+    ≡ gives ks (byteShown (kindOf write) id address i v) (askP write true id (address + i) (i + 1)) (false ∷ carrying write vs)
 unfolding phases tell readBytes writeBytes bits pushed put kindOf Carried standing
 byte-shown false i v vs {ks} {id = id} {address} a h =
-    ap₂ (λ (c u : ℕ). gave ks (entry Kind.read c id (address + i) u) (askP false true id (address + i) (i + 1)) (false ∷ carrying false vs))
+    ap₂ (λ (c u : ℕ). gives ks (inFrame c (event Kind.read id (address + i) u)) (askP false true id (address + i) (i + 1)) (false ∷ carrying false vs))
     (omega arith) (rw (a .held) (head-eq-of-cons-eq h))
 byte-shown true i v vs {ks} {id = id} {address} a h =
     let l : word dataBits v < 2 ^ (topBit + 1) = word-lt dataBits v (h .0) in
-    ap₂ (λ (c u : ℕ). gave ks (entry (cond (fits dataBits u) Kind.written Kind.writebad) c id (address + i) (byteOf u))
+    ap₂ (λ (c u : ℕ). gives ks (inFrame c (event (cond (fits dataBits u) Kind.written Kind.writebad) id (address + i) (byteOf u)))
     (askP true (fits dataBits u) id (address + i) (i + 1)) (false ∷ carrying true vs))
     {y = byteColumn i + (topBit + 1)} (omega arith) (collected (topBit + 1) (word dataBits v) (omega arith) l)
     ∙ rw (accepted dataBits v, byte-word v (h .0))
@@ -108,15 +113,15 @@ byte-shown true i v vs {ks} {id = id} {address} a h =
 module _ {ks : List Memory} {k : Memory} {write : Bool} {id address count : ℕ} (a : Allowed ks k write id address count) where
   -- R and W, and on to byte 0.
   asked-shown : (next : List Bool) → 0 < count
-      → phases ks (askR id address) (restZeros + headerColumns + 1) (not write ∷ write ∷ next)
-      ≡ phases ks (byteS write id (address + 0) 1) (byteColumn 0) next
+      → phases ks (askR id address) (frameAt (restZeros + headerColumns + 1)) (not write ∷ write ∷ next)
+      ≡ phases ks (byteS write id (address + 0) 1) (frameAt (byteColumn 0)) next
   unfolding phases tell asked
   asked-shown next h =
       let r : allows k write address ≡ true = rw add-zero at (a .allowed 0 h) in
       rw (beq-not write, a .held, r, add-zero address)
 
   -- P of byte i, the last ..
-  last-shown : (i : ℕ) → phases ks (askP write true id (address + i) (i + 1)) (suc (byteColumn i + (topBit + 1))) (false ∷ []) .told
+  last-shown : (i : ℕ) → phases ks (askP write true id (address + i) (i + 1)) (frameAt (suc (byteColumn i + (topBit + 1)))) (false ∷ []) .told
       ≡ closing k write id address i
   unfolding phases tell
   last-shown i =
@@ -125,8 +130,8 @@ module _ {ks : List Memory} {k : Memory} {write : Bool} {id address count : ℕ}
 
   -- .. or not, and on to the next.
   goes-shown : (i : ℕ) (next : List Bool) → i + 1 < count
-      → phases ks (askP write true id (address + i) (i + 1)) (suc (byteColumn i + (topBit + 1))) (false ∷ next)
-      ≡ phases ks (byteS write id (address + (i + 1)) (i + 1 + 1)) (byteColumn (i + 1)) next
+      → phases ks (askP write true id (address + i) (i + 1)) (frameAt (suc (byteColumn i + (topBit + 1)))) (false ∷ next)
+      ≡ phases ks (byteS write id (address + (i + 1)) (i + 1 + 1)) (frameAt (byteColumn (i + 1))) next
   unfolding phases tell more
   goes-shown i next h =
       let c : suc (suc (byteColumn i + (topBit + 1))) ≡ byteColumn (i + 1) = omega arith in
@@ -136,19 +141,19 @@ module _ {ks : List Memory} {k : Memory} {write : Bool} {id address count : ℕ}
 
   -- A byte takes no right away.
   allowed-after : (i v : ℕ)
-      → Allowed (put ks (byteShown (kindOf write) id address i v)) (after write k (address + i) v) write id address count
+      → Allowed (put ks (byteShown (kindOf write) id address i v .event)) (after write k (address + i) v) write id address count
   unfolding put kindOf after stored allows
   allowed-after i v =
       record { numbered = a .numbered; held = held write; there = a .there; few = a .few; allowed = a .allowed }
     where
-      held : (w : Bool) → getElem? (put ks (byteShown (kindOf w) id address i v)) id ≡ some (after w k (address + i) v)
+      held : (w : Bool) → getElem? (put ks (byteShown (kindOf w) id address i v .event)) id ≡ some (after w k (address + i) v)
       held false = a .held
       held true = rw (stored-set ks id (address + i) v k (a .held)) (at-set ks id k (stored k (address + i) v) (a .held))
 
 -- Byte i and those after it, the last of them byte n.
 bytes-shown : (write : Bool) (i v n : ℕ) (vs : List ℕ) {ks : List Memory} {k : Memory} {id address : ℕ} → i + length vs ≡ n
     → Allowed ks k write id address (suc n) → Carried write k (address + i) (v ∷ vs)
-    → phases ks (byteS write id (address + i) (i + 1)) (byteColumn i) (carrying write (v ∷ vs)) .told
+    → phases ks (byteS write id (address + i) (i + 1)) (frameAt (byteColumn i)) (carrying write (v ∷ vs)) .told
     ≡ bytesShown (kindOf write) id address i (v ∷ vs) ++ closing k write id address n
 unfolding bytesShown more allows after
 bytes-shown write i v n [] e a h =

@@ -4,12 +4,12 @@ use mathlib.Core.Path.{_≡_, refl, ap}
 use mathlib.Core.Bool.{Bool, true, false, false≢true}
 use mathlib.Core.List.{List, [], _∷_}
 use mathlib.Core.Option.{Option}
-use Prim.Native.Nat.{ℕ, suc, _+_}
+use Prim.Native.Nat.{ℕ, _+_}
 use lib.Dec.{ltb}
 use Rattle.line.specs.Limits.{restZeros}
 use Rattle.line.specs.Rest.{Timed, frame, powerOn, timer, judge}
 use Rattle.line.specs.Memory.{Memory}
-use Rattle.line.specs.Entries.{Entry, note}
+use Rattle.line.specs.Entries.{Event, Place, opened, onward, Entry, note}
 use Rattle.line.specs.Slave
 use Rattle.line.specs.Reader
 use Rattle.line.specs.Account.{Phase, Told, Step, tell, step, along, account}
@@ -27,45 +27,45 @@ pub record Walk (S : Type 0) : Type 0 where
   pub state : S
 
 -- A column's entry, if it has one, before what follows.
-abbrev pub noted : {S : Type 0} → Option Entry → Walk S → Walk S
-noted o w = record { told = note o (w .told); left = w .left; state = w .state }
+abbrev pub noted : {S : Type 0} → Place → Option Event → Walk S → Walk S
+noted p o w = record { told = note p o (w .told); left = w .left; state = w .state }
 
-unfoldable pub walk : List Memory → Timed Phase → (c : ℕ) → List Bool → Walk (Timed Phase)
-walk ks s c [] = record { told = []; left = ks; state = s }
-walk ks s c (m ∷ ms) =
-    let t : Step = step c ks s m in noted (t .says) (walk (kept ks (t .says)) (t .state) (suc c) ms)
+unfoldable pub walk : List Memory → Timed Phase → Place → List Bool → Walk (Timed Phase)
+walk ks s p [] = record { told = []; left = ks; state = s }
+walk ks s p (m ∷ ms) =
+    let t : Step = step ks s m in noted p (t .says) (walk (kept ks (t .says)) (t .state) (onward s m p) ms)
 
 -- The same by the phases alone, where no column is the fourteenth zero.
-unfoldable pub phases : List Memory → Phase → (c : ℕ) → List Bool → Walk Phase
-phases ks p c [] = record { told = []; left = ks; state = p }
-phases ks p c (m ∷ ms) =
-    let t : Told = tell c ks p m in noted (t .says) (phases (kept ks (t .says)) (t .next) (suc c) ms)
+unfoldable pub phases : List Memory → Phase → Place → List Bool → Walk Phase
+phases ks q p [] = record { told = []; left = ks; state = q }
+phases ks q p (m ∷ ms) =
+    let t : Told = tell ks q m in noted p (t .says) (phases (kept ks (t .says)) (t .next) (onward (frame 0 q) m p) ms)
 
 -- Along a chain, from any three that go together ..
 along-walk : (row : List Bool) (ks : List Memory) → Bytes ks
-    → {a : Timed Phase} {f : ℕ → Timed Slave.Phase} {r : Timed Reader.Phase} → Together ks a f r → (c : ℕ)
-    → along (dress f 0 ks) a c row ≡ walk ks a c row .told
+    → {a : Timed Phase} {f : ℕ → Timed Slave.Phase} {r : Timed Reader.Phase} → Together ks a f r → (p : Place)
+    → along (dress f 0 ks) a p row ≡ walk ks a p row .told
 unfolding along walk
-along-walk [] ks bs s c = refl
-along-walk (m ∷ row) ks bs {a} {f} {r} s c =
-    let n : Next ks f m (step c ks a m) (λ x. Reader.step c r m x) = move ks bs c s m in
-    rw (memories-dress f 0 ks, n .passes) (ap (note (step c ks a m .says)) (along-walk row _ (n .bytes) (n .onward) (suc c)))
+along-walk [] ks bs s p = refl
+along-walk (m ∷ row) ks bs {a} {f} {r} s p =
+    let n : Next ks f m (step ks a m) (λ x. Reader.step r m x) = move ks bs s m in
+    rw (memories-dress f 0 ks, n .passes) (ap (note p (step ks a m .says)) (along-walk row _ (n .bytes) (n .onward) (onward a m p)))
 
 -- .. and so from power-on.
-pub account-walk : (ks : List Memory) (row : List Bool) → Bytes ks → account ks row ≡ walk ks powerOn 0 row .told
+pub account-walk : (ks : List Memory) (row : List Bool) → Bytes ks → account ks row ≡ walk ks powerOn (opened 0) row .told
 unfolding account
-account-walk ks row bs = rw (switchedOn-dress 0 ks) (along-walk row ks bs (waiting 0) 0)
+account-walk ks row bs = rw (switchedOn-dress 0 ks) (along-walk row ks bs (waiting 0) (opened 0))
 
 -- In a frame, with z zeros counted.
 abbrev pub timed : ℕ → Walk Phase → Walk (Timed Phase)
 timed z w = record { told = w .told; left = w .left; state = frame z (w .state) }
 
-pub walk-phases : (ks : List Memory) (p : Phase) (z c : ℕ) (row : List Bool) → calm z row ≡ true
-    → walk ks (frame z p) c row ≡ timed (trailing z row) (phases ks p c row)
+pub walk-phases : (ks : List Memory) (q : Phase) (z : ℕ) (p : Place) (row : List Bool) → calm z row ≡ true
+    → walk ks (frame z q) p row ≡ timed (trailing z row) (phases ks q p row)
 unfolding walk phases calm trailing step judge timer
-walk-phases ks p z c [] h = refl
-walk-phases ks p z c (true ∷ row) h = ap (noted (tell c ks p true .says)) (walk-phases _ _ 0 (suc c) row h)
-walk-phases ks p z c (false ∷ row) h =
+walk-phases ks q z p [] h = refl
+walk-phases ks q z p (true ∷ row) h = ap (noted p (tell ks q true .says)) (walk-phases _ _ 0 (onward (frame 0 q) true p) row h)
+walk-phases ks q z p (false ∷ row) h =
     tested (ltb (z + 1) restZeros)
-    (λ q. rw q (ap (noted (tell c ks p false .says)) (walk-phases _ _ (z + 1) (suc c) row (rw q at h))))
-    (λ q. absurd (false≢true (rw q at h)))
+    (λ t. rw t (ap (noted p (tell ks q false .says)) (walk-phases _ _ (z + 1) (onward (frame 0 q) false p) row (rw t at h))))
+    (λ t. absurd (false≢true (rw t at h)))

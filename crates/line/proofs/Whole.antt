@@ -4,14 +4,14 @@ use mathlib.Core.Path.{_≡_, refl, sym, ap, fun-ext}
 use mathlib.Core.Bool.{Bool, true, false}
 use mathlib.Core.List.{List, [], _∷_}
 use mathlib.Core.Option.{Option, none, some}
-use Prim.Native.Nat.{ℕ, suc, _-_}
+use Prim.Native.Nat.{ℕ, _-_}
 use native.Mathlib.Omega.{arith}
 use lib.Dec.{leb·suc-zero}
 use lib.ListN.{length}
 use Rattle.line.specs.Limits.{lockFirst}
 use Rattle.line.specs.Rest.{Timed, power, rest, frame, timer, judge}
 use Rattle.line.specs.Memory.{Memory}
-use Rattle.line.specs.Entries.{Kind, Entry, note}
+use Rattle.line.specs.Entries.{Kind, Event, Place, opened, onward, Entry, note}
 use Rattle.line.specs.Slave
 use Rattle.line.specs.Chain
 use Rattle.line.specs.Reader
@@ -35,7 +35,7 @@ begins ks =
     = at-locks 1 0 (omega arith) in
     rw (fresh, leb·suc-zero (length ks)) at s
 
-module _ (ks : List Memory) (bs : Bytes ks) (c : ℕ) where
+module _ (ks : List Memory) (bs : Bytes ks) where
   -- All slaves move alike and pass on what they see, and nothing is written or read.
   alike : {m : Bool} {f : ℕ → Timed Slave.Phase} {T : Account.Step} {L : Bool → Reader.Step} (g : ℕ → Timed Slave.Phase)
       → ((k : Memory) (i : ℕ) → Slave.step (Slave.slave k (f i)) m false ≡ stepTo k (g i) false)
@@ -54,7 +54,7 @@ module _ (ks : List Memory) (bs : Bytes ks) (c : ℕ) where
 
   -- One column, with the fourteenth zero judged first.
   pub move : {a : Timed Account.Phase} {f : ℕ → Timed Slave.Phase} {r : Timed Reader.Phase} → Together ks a f r → (m : Bool)
-      → Next ks f m (Account.step c ks a m) (λ x. Reader.step c r m x)
+      → Next ks f m (Account.step ks a m) (λ x. Reader.step r m x)
   unfolding Account.step Reader.step Slave.step judge put
   move (waiting z) m =
       looked-up (timer z m)
@@ -65,7 +65,7 @@ module _ (ks : List Memory) (bs : Bytes ks) (c : ℕ) where
   move (in-frame z s) m =
       looked-up (timer z m)
       (λ q. rw q (alike (λ i. rest) (λ k i. rw q) resting refl refl tt))
-      (λ z′ q. rw q (advance ks bs c z z′ s m q))
+      (λ z′ q. rw q (advance ks bs z z′ s m q))
 
 -- Of a row with the account es: what the reader lists, and the memories that the chain is left with.
 pub record Faithful (ks : List Memory) (es listed : List Entry) (left : List Memory) : Type 0 where
@@ -74,28 +74,28 @@ pub record Faithful (ks : List Memory) (es listed : List Entry) (left : List Mem
   pub shown : Shows ks es
 
 -- One entry, or none, before the rest.
-noted : (ks : List Memory) (o : Option Entry) {es listed : List Entry} {left : List Memory}
+noted : (ks : List Memory) (p : Place) (o : Option Event) {es listed : List Entry} {left : List Memory}
     → IfAny (λ e. whenRead (is Kind.read e) ks e) o → Faithful (kept ks o) es listed left
-    → Faithful ks (note o es) (note o listed) left
+    → Faithful ks (note p o es) (note p o listed) left
 unfolding replay Shows
-noted ks none s h = h
-noted ks (some e) s h =
-    record { list = ap (λ (l : List Entry). e ∷ l) (h .list); replayed = h .replayed; shown = (s, h .shown) }
+noted ks p none s h = h
+noted ks p (some e) s h =
+    record { list = ap (note p (some e)) (h .list); replayed = h .replayed; shown = (s, h .shown) }
 
 -- Column after column, from any three that go together ..
 faithful : (row : List Bool) (ks : List Memory) → Bytes ks
-    → {a : Timed Account.Phase} {f : ℕ → Timed Slave.Phase} {r : Timed Reader.Phase} → Together ks a f r → (c : ℕ)
-    → Faithful ks (Account.along (dress f 0 ks) a c row) (Reader.entries r c (Reader.columns row (Chain.answers (dress f 0 ks) row)))
+    → {a : Timed Account.Phase} {f : ℕ → Timed Slave.Phase} {r : Timed Reader.Phase} → Together ks a f r → (p : Place)
+    → Faithful ks (Account.along (dress f 0 ks) a p row) (Reader.entries r p (Reader.columns row (Chain.answers (dress f 0 ks) row)))
     (Chain.memories (Chain.after (dress f 0 ks) row))
 unfolding Account.along Reader.entries Reader.columns Chain.answers Chain.after replay Shows
-faithful [] ks bs {a} {f} {r} s c = record { list = refl; replayed = sym (memories-dress f 0 ks); shown = tt }
-faithful (m ∷ row) ks bs {a} {f} {r} s c =
-    let n : Next ks f m (Account.step c ks a m) (λ x. Reader.step c r m x) = move ks bs c s m in
+faithful [] ks bs {a} {f} {r} s p = record { list = refl; replayed = sym (memories-dress f 0 ks); shown = tt }
+faithful (m ∷ row) ks bs {a} {f} {r} s p =
+    let n : Next ks f m (Account.step ks a m) (λ x. Reader.step r m x) = move ks bs s m in
     rw (memories-dress f 0 ks, n .passes, n .alike)
-    (noted ks (Account.step c ks a m .says) (n .shows) (faithful row (kept ks (Account.step c ks a m .says)) (n .bytes) (n .onward) (suc c)))
+    (noted ks p (Account.step ks a m .says) (n .shows) (faithful row (kept ks (Account.step ks a m .says)) (n .bytes) (n .onward) (onward a m p)))
 
 -- .. and so from power-on.
 pub run : (ks : List Memory) (row : List Bool) → Bytes ks
     → Faithful ks (Account.account ks row) (Reader.listFrom 0 (Reader.columns row (Chain.answersFrom ks row))) (Chain.memoriesAfter ks row)
 unfolding Account.account Reader.listFrom Chain.answersFrom Chain.memoriesAfter
-run ks row bs = rw (switchedOn-dress 0 ks) (faithful row ks bs (waiting 0) 0)
+run ks row bs = rw (switchedOn-dress 0 ks) (faithful row ks bs (waiting 0) (opened 0))

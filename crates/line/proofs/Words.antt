@@ -1,17 +1,16 @@
 -- Words: nothing collected is cut, and the header of a built word is what was asked for. Assumes nothing.
 use mathlib.Core.Path.{_≡_, refl, sym, ap, ap₂, _∙_}
-use mathlib.Core.Bool.{Bool, true, false, cond}
-use mathlib.Core.List.{List, [], _∷_, _++_}
-use Prim.Native.Nat.{ℕ, zero, suc, _+_, _*_, _/_, _%_, _^_, _≤_, _<_}
+use mathlib.Core.Bool.{Bool, true, false}
+use mathlib.Core.List.{List, _∷_, _++_}
+use Prim.Native.Nat.{ℕ, zero, suc, _+_, _*_, _/_, _%_, _^_, _<_}
 use native.Mathlib.Nat.{zero-add, suc-add, mod-eq-of-lt}
 use native.Mathlib.Numerals.{add-one}
 use native.Mathlib.Omega.{arith}
-use borrow.Author.Tests.{eq-eqb, ne-eqb}
 use lib.ListN.{length}
 use lib.Pow.{high, low, shr-shr, shr-le}
 use Rattle.line.specs.Limits.{idCount}
 use Rattle.line.specs.Bits.{num, bitOf, bit, bits, push}
-use Rattle.line.specs.Division.{headerBits, dataBits, checkWidth, topBit, check, word, fits, byteOf}
+use Rattle.line.specs.Division.{headerBits, dataBits, checkWidth, word, fits, byteOf}
 use Rattle.line.specs.Header.{Header, wrong, access, command, header, accessWord, commandWord}
 use Rattle.line.proofs.Division.{bit-above, bit-same, under, check-lt, accepted}
 use Rattle.laws.proofs.Every.{either}

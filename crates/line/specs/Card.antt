@@ -28,7 +28,7 @@ blank = record { registers = replicate registerCount 0; rights = replicate regis
 
 -- The values of a list's entries.
 abbrev pub values : List Entry → List ℕ
-values es = map (λ e. e .value) es
+values es = map (λ e. e .event .value) es
 
 -- What a case gives: check bits, or the value that the reader lists for the chain's locks.
 unfoldable pub found : Case → List ℕ

@@ -4,7 +4,7 @@
 --   register access  CTS  ID       address    check
 --   column after S   1    2 .. 9         10 11   12 .. 15
 --   command          CTS  IDS            CMD     check
-use mathlib.Core.Bool.{Bool, cond}
+use mathlib.Core.Bool.{cond}
 use Prim.Native.Nat.{ℕ, _+_, _*_, _/_, _%_, _^_}
 use Rattle.line.specs.Bits.{bit}
 use Rattle.line.specs.Division.{headerBits, checkWidth, fits}

@@ -18,6 +18,8 @@ pub mod Slave
 pub mod Chain
 pub mod Building
 pub mod Entries
+pub mod Pieces
+pub mod Layout
 pub mod Reader
 pub mod Account
 pub mod Replay

@@ -3,7 +3,7 @@
 use mathlib.Core.Option.{Option, none, some}
 use Prim.Native.Nat.{ℕ}
 use Rattle.line.specs.Rest.{Timed, rest, frame, Judged, still, ends, meant}
-use Rattle.line.specs.Entries.{Kind, Entry, entry}
+use Rattle.line.specs.Entries.{Kind, Event, event}
 
 -- What a column makes of a machine in a frame: its next phase, and what it says ..
 pub record Turn (P S : Type 0) : Type 0 where
@@ -25,14 +25,14 @@ stepped silent ended turn (still s) = record { state = s; says = silent }
 stepped silent ended turn ends = record { state = rest; says = ended }
 stepped silent ended turn (meant z p) = taken z (turn p)
 
--- Reader and Account say an entry or none. On to the next phase, and no entry ..
-abbrev pub go : {P : Type 0} → P → Turn P (Option Entry)
+-- Reader and Account say an event or none. On to the next phase, and no event ..
+abbrev pub go : {P : Type 0} → P → Turn P (Option Event)
 go p = record { next = p; says = none }
 
 -- .. or with one.
-abbrev pub gives : {P : Type 0} → Entry → P → Turn P (Option Entry)
+abbrev pub gives : {P : Type 0} → Event → P → Turn P (Option Event)
 gives e p = record { next = p; says = some e }
 
 -- end: "the fourteenth zero after a frame was begun".
-abbrev pub listing : {P : Type 0} → (c : ℕ) → (P → Turn P (Option Entry)) → Judged P → Step P (Option Entry)
-listing c turn j = stepped none (some (entry Kind.end c 0 0 0)) turn j
+abbrev pub listing : {P : Type 0} → (P → Turn P (Option Event)) → Judged P → Step P (Option Event)
+listing turn j = stepped none (some (event Kind.end 0 0 0)) turn j

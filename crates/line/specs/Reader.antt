@@ -13,7 +13,7 @@ use Rattle.line.specs.Machine as machine
 use Rattle.line.specs.Machine.{go, gives, listing}
 use Rattle.line.specs.Division.{dataBits, topBit, fits, byteOf}
 use Rattle.line.specs.Header.{Header, wrong, access, command, header}
-use Rattle.line.specs.Entries.{Kind, Entry, entry, note}
+use Rattle.line.specs.Entries.{Kind, Event, event, Place, opened, onward, Entry, note}
 
 -- What the lock columns showed so far: ones alone, so many ones and then zeros, or any other pattern.
 pub data Locks : Type 0 where
@@ -45,49 +45,49 @@ pub data Phase : Type 0 where
   writes : (id address nth left so-far : ℕ) → (echoed : Bool) → Phase
   askP : (write : Bool) → (id address nth : ℕ) → Phase
 
--- What a column makes of the reader in a frame: its next phase, and perhaps an entry ..
+-- What a column makes of the reader in a frame: its next phase, and perhaps an event ..
 abbrev pub Look : Type 0
-Look = machine.Turn Phase (Option Entry)
+Look = machine.Turn Phase (Option Event)
 
 -- .. and behind the timer.
 abbrev pub Step : Type 0
-Step = machine.Step Phase (Option Entry)
+Step = machine.Step Phase (Option Event)
 
 -- lock: "value = how many of IDL0..7 are 1, or 9 if IDL8 is 1 after eight". lockodd: "any other lock pattern; deaf".
-unfoldable pub locked : (c column so-far : ℕ) → Locks → Look
-locked c column so-far ones = gives (entry Kind.lock c 0 0 (idCount + 1)) (head (column + 1) so-far (idCount + 1))
-locked c column so-far (upto n) = gives (entry Kind.lock c 0 0 n) (head (column + 1) so-far n)
-locked c column so-far mixed = gives (entry Kind.lockodd c 0 0 0) deaf
+unfoldable pub locked : (column so-far : ℕ) → Locks → Look
+locked column so-far ones = gives (event Kind.lock 0 0 (idCount + 1)) (head (column + 1) so-far (idCount + 1))
+locked column so-far (upto n) = gives (event Kind.lock 0 0 n) (head (column + 1) so-far n)
+locked column so-far mixed = gives (event Kind.lockodd 0 0 0) deaf
 
 -- badhead: "last header column, check wrong". command: "last header column, CTS 0, check right", "id = CMD, value = IDS".
-unfoldable pub headed : (c : ℕ) → Header → (lock : ℕ) → Look
-headed c wrong lock = gives (entry Kind.badhead c 0 0 0) deaf
-headed c (command ids cmd) lock = gives (entry Kind.command c cmd 0 ids) deaf
-headed c (access id address) lock = go (askR id address lock)
+unfoldable pub headed : Header → (lock : ℕ) → Look
+headed wrong lock = gives (event Kind.badhead 0 0 0) deaf
+headed (command ids cmd) lock = gives (event Kind.command cmd 0 ids) deaf
+headed (access id address) lock = go (askR id address lock)
 
 -- odd: "any other answer at W but acceptance by a locked ID (value = 2 x answered R + answered W)".
-abbrev pub oddAnswer : (c id address : ℕ) → (answeredR answeredW : Bool) → Look
-oddAnswer c id address answeredR answeredW =
-    gives (entry Kind.odd c id address (2 * num answeredR + num answeredW)) deaf
+abbrev pub oddAnswer : (id address : ℕ) → (answeredR answeredW : Bool) → Look
+oddAnswer id address answeredR answeredW =
+    gives (event Kind.odd id address (2 * num answeredR + num answeredW)) deaf
 
 -- Acceptance: R and W repeated. refused: "ID locked, R repeated, W inverted", "value 1 for a write".
-abbrev pub answer : (c id address : ℕ) → (r answeredR w answeredW : Bool) → Look
-answer c id address r answeredR w answeredW =
+abbrev pub answer : (id address : ℕ) → (r answeredR w answeredW : Bool) → Look
+answer id address r answeredR w answeredW =
     cond (Bool·beq answeredR r)
-    (cond (Bool·beq answeredW w) (go (byteS w id address 1)) (gives (entry Kind.refused c id address (num w)) deaf))
-    (oddAnswer c id address answeredR answeredW)
+    (cond (Bool·beq answeredW w) (go (byteS w id address 1)) (gives (event Kind.refused id address (num w)) deaf))
+    (oddAnswer id address answeredR answeredW)
 
 -- absent: "answered 0 0, ID not locked".
-abbrev pub silence : (c id address : ℕ) → (answeredR answeredW : Bool) → Look
-silence c id address answeredR answeredW =
-    cond (answeredR || answeredW) (oddAnswer c id address answeredR answeredW)
-    (gives (entry Kind.absent c id address 0) deaf)
+abbrev pub silence : (id address : ℕ) → (answeredR answeredW : Bool) → Look
+silence id address answeredR answeredW =
+    cond (answeredR || answeredW) (oddAnswer id address answeredR answeredW)
+    (gives (event Kind.absent id address 0) deaf)
 
 -- pair: "W's column, R = W". "A locked ID is one below the lock value (all eight, if it is 9)."
-unfoldable pub asked : (c id address lock : ℕ) → (r answeredR w answeredW : Bool) → Look
-asked c id address lock r answeredR w answeredW =
-    cond (Bool·beq r w) (gives (entry Kind.pair c id address 0) deaf)
-    (cond (ltb id lock) (answer c id address r answeredR w answeredW) (silence c id address answeredR answeredW))
+unfoldable pub asked : (id address lock : ℕ) → (r answeredR w answeredW : Bool) → Look
+asked id address lock r answeredR w answeredW =
+    cond (Bool·beq r w) (gives (event Kind.pair id address 0) deaf)
+    (cond (ltb id lock) (answer id address r answeredR w answeredW) (silence id address answeredR answeredW))
 
 -- read, readbad: "last check column of a read, CDS check right, wrong".
 abbrev pub readKind : (word : ℕ) → Kind
@@ -98,47 +98,47 @@ abbrev pub writeKind : (word : ℕ) → (echoed : Bool) → Kind
 writeKind word echoed = cond (fits dataBits word) (cond echoed Kind.written Kind.echo) Kind.writebad
 
 -- "Address is the header's up to W, then that of the byte which S opens, the bits carry or P closes."
-unfoldable pub look : (c : ℕ) → Phase → (m x : Bool) → Look
-look c deaf m x = go deaf
-look c (locks column so-far l) m x =
+unfoldable pub look : Phase → (m x : Bool) → Look
+look deaf m x = go deaf
+look (locks column so-far l) m x =
     cond (ltb column lockLast) (go (locks (column + 1) (push so-far m) (shown column l x)))
-    (locked c column (push so-far m) (shown column l x))
-look c (head column so-far lock) m x =
+    (locked column (push so-far m) (shown column l x))
+look (head column so-far lock) m x =
     cond (ltb column headerColumns) (go (head (column + 1) (push so-far m) lock))
-    (headed c (header (push so-far m)) lock)
-look c (askR id address lock) m x = go (askW id address lock m x)
-look c (askW id address lock r answered) m x = asked c id address lock r answered m x
+    (headed (header (push so-far m)) lock)
+look (askR id address lock) m x = go (askW id address lock m x)
+look (askW id address lock r answered) m x = asked id address lock r answered m x
 -- "The reader is deaf .. after a 0 at S." mute: "S = 1 answered 0; deaf".
-look c (byteS write id address nth) false x = go deaf
-look c (byteS write id address nth) true false = gives (entry Kind.mute c id address 0) deaf
-look c (byteS false id address nth) true true = go (reads id address nth topBit 0)
-look c (byteS true id address nth) true true = go (writes id address nth topBit 0 true)
-look c (reads id address nth (suc left) so-far) m x = go (reads id address nth left (push so-far x))
-look c (reads id address nth zero so-far) m x =
+look (byteS write id address nth) false x = go deaf
+look (byteS write id address nth) true false = gives (event Kind.mute id address 0) deaf
+look (byteS false id address nth) true true = go (reads id address nth topBit 0)
+look (byteS true id address nth) true true = go (writes id address nth topBit 0 true)
+look (reads id address nth (suc left) so-far) m x = go (reads id address nth left (push so-far x))
+look (reads id address nth zero so-far) m x =
     let word : ℕ = push so-far x in
-    gives (entry (readKind word) c id address (byteOf word)) (askP false id address nth)
-look c (writes id address nth (suc left) so-far echoed) m x =
+    gives (event (readKind word) id address (byteOf word)) (askP false id address nth)
+look (writes id address nth (suc left) so-far echoed) m x =
     go (writes id address nth left (push so-far m) (echoed && Bool·beq x m))
-look c (writes id address nth zero so-far echoed) m x =
+look (writes id address nth zero so-far echoed) m x =
     let word : ℕ = push so-far m in
-    gives (entry (writeKind word (echoed && Bool·beq x m)) c id address (byteOf word)) (askP true id address nth)
+    gives (event (writeKind word (echoed && Bool·beq x m)) id address (byteOf word)) (askP true id address nth)
 -- closed: "P answered 1". odd: "P answered 0 at address 127 or the 64th byte (value 4)".
-look c (askP write id address nth) m true = gives (entry Kind.closed c id address 0) deaf
-look c (askP write id address nth) m false =
+look (askP write id address nth) m true = gives (event Kind.closed id address 0) deaf
+look (askP write id address nth) m false =
     cond (ltb (address + 1) registerCount && ltb nth byteLimit) (go (byteS write id (address + 1) (nth + 1)))
-    (gives (entry Kind.odd c id address 4) deaf)
+    (gives (event Kind.odd id address 4) deaf)
 
 -- "A deaf reader still gives `end`."
-abbrev pub stepped : (c : ℕ) → Judged Phase → (m x : Bool) → Step
-stepped c j m x = listing c (λ p. look c p m x) j
+abbrev pub stepped : Judged Phase → (m x : Bool) → Step
+stepped j m x = listing (λ p. look p m x) j
 
 -- The phase after S: no lock seen, no header bit.
 abbrev pub begun : Phase
 begun = locks 1 0 ones
 
 -- One column of the reader: the fourteenth zero is judged first.
-unfoldable pub step : (c : ℕ) → Timed Phase → (m x : Bool) → Step
-step c s m x = stepped c (judge begun s m) m x
+unfoldable pub step : Timed Phase → (m x : Bool) → Step
+step s m x = stepped (judge begun s m) m x
 
 -- Columns: "A column pairs a CDM bit with the CDS bit that answers it".
 pub data Column : Type 0 where
@@ -150,16 +150,21 @@ columns [] xs = []
 columns (m ∷ ms) [] = []
 columns (m ∷ ms) (x ∷ xs) = col m x ∷ columns ms xs
 
--- The entries that columns show to a reader in state s, the first of them column c of the row.
-unfoldable pub entries : Timed Phase → (c : ℕ) → List Column → List Entry
-entries s c [] = []
-entries s c (col m x ∷ cs) = note (step c s m x .says) (entries (step c s m x .state) (suc c) cs)
+-- The entries that columns show to a reader in state s, the first of them at place p of the row.
+unfoldable pub entries : Timed Phase → Place → List Column → List Entry
+entries s p [] = []
+entries s p (col m x ∷ cs) = note p (step s m x .says) (entries (step s m x .state) (onward s m p) cs)
 
--- The reader's state after columns.
-unfoldable pub after : Timed Phase → (c : ℕ) → List Column → Timed Phase
-after s c [] = s
-after s c (col m x ∷ cs) = after (step c s m x .state) (suc c) cs
+-- The reader's state after columns ..
+unfoldable pub after : Timed Phase → List Column → Timed Phase
+after s [] = s
+after s (col m x ∷ cs) = after (step s m x .state) cs
+
+-- .. and the place behind them.
+unfoldable pub placeAfter : Timed Phase → Place → List Column → Place
+placeAfter s p [] = p
+placeAfter s p (col m x ∷ cs) = placeAfter (step s m x .state) (onward s m p) cs
 
 -- "An entry's column counts from the start of the row, wherever the reader was let in": let in at column k, at power-on.
 unfoldable pub listFrom : (k : ℕ) → List Column → List Entry
-listFrom k cs = entries powerOn k (drop k cs)
+listFrom k cs = entries powerOn (opened k) (drop k cs)

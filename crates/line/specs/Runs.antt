@@ -32,4 +32,4 @@ NoRun row k = (i : ℕ) → k ≤ i → RunAt row i → ⊥
 -- The entries of a list that fall in column j or later.
 unfoldable pub fromColumn : ℕ → List Entry → List Entry
 fromColumn j [] = []
-fromColumn j (e ∷ es) = cond (leb j (e .column)) (e ∷ fromColumn j es) (fromColumn j es)
+fromColumn j (e ∷ es) = cond (leb j (e .place .column)) (e ∷ fromColumn j es) (fromColumn j es)

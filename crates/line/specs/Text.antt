@@ -1,12 +1,12 @@
--- Text: rows and lists as text, and when a text or a list's bytes are of the form that paper 01 gives them (refusals 11 and 12).
+-- Text: rows and lists as text, and when a text is of the form that paper 01 gives it (refusal 11).
 -- Every text here is its list of bytes.
 use mathlib.Core.Bool.{Bool, true, false, cond, _&&_, _||_}
 use mathlib.Core.List.{List, [], _∷_, _++_, map}
-use mathlib.Core.Option.{Option, none, some}
 use Prim.Native.Nat.{ℕ, zero, suc, _+_, _/_, _%_}
 use lib.Dec.{ltb, eqb}
 use lib.ListN.{length, drop, getD}
-use Rattle.line.specs.Entries.{bytes, Line, Entry, table, fromBytes}
+use Rattle.line.specs.Entries.{bytes, table, Entry}
+use Rattle.line.specs.Layout.{Field, numbers, valueOf, named, heading}
 
 -- "TAB".
 abbrev pub tab : ℕ
@@ -111,52 +111,34 @@ digitsIn (suc fuel) n = cond (ltb n 10) (digit n ∷ []) (digitsIn fuel (n / 10)
 unfoldable pub decimal : ℕ → List ℕ
 decimal n = digitsIn (suc n) n
 
--- "header `event` TAB `column` TAB `id` TAB `address` TAB `value`".
+-- A header's names, each behind its TAB, and LF ..
+abbrev pub headings : List Field → List ℕ
+headings [] = feed ∷ []
+headings (f ∷ fs) = tab ∷ bytes (heading f) ++ headings fs
+
+-- .. "header `event` TAB `column` TAB `id` TAB `address` TAB `value`".
 abbrev pub listHeader : List ℕ
-listHeader =
-    bytes "event" ++ tab ∷ bytes "column" ++ tab ∷ bytes "id" ++ tab ∷ bytes "address" ++ tab ∷ bytes "value" ++ feed ∷ []
+listHeader = bytes (heading Field.kind) ++ headings numbers
 
 -- A field behind its TAB: "decimal", "`-` for a field the kind doesn't name".
 unfoldable pub field : (named : Bool) → ℕ → List ℕ
 field true n = tab ∷ decimal n
 field false n = tab ∷ bytes "-"
 
--- "one entry a line, decimal, the kind by name": a kind's line of the table, and the fields.
-unfoldable pub entryLine : Line → (column id address value : ℕ) → List ℕ
-entryLine kind column id address value =
-    kind .name ++ field true column ++ field (kind .has-id) id ++ field (kind .has-address) address
-    ++ field (kind .has-value) value ++ feed ∷ []
+-- An entry's fields, and LF ..
+unfoldable pub cells : Entry → List Field → List ℕ
+cells e [] = feed ∷ []
+cells e (f ∷ fs) = field (named e f) (valueOf e f) ++ cells e fs
 
--- The line of six bytes that may be an entry.
-abbrev pub lineOf : Option Entry → List ℕ
-lineOf none = []
-lineOf (some e) = entryLine (table (e .kind)) (e .column) (e .id) (e .address) (e .value)
+-- .. behind "the kind by name".
+unfoldable pub entryLine : Entry → List ℕ
+entryLine e = table (e .event .kind) .name ++ cells e numbers
 
--- The lines of a list's bytes, six by six.
-unfoldable pub entryLines : (list : List ℕ) → List ℕ
+-- "one entry a line".
+unfoldable pub entryLines : List Entry → List ℕ
 entryLines [] = []
-entryLines (k ∷ []) = []
-entryLines (k ∷ h ∷ []) = []
-entryLines (k ∷ h ∷ l ∷ []) = []
-entryLines (k ∷ h ∷ l ∷ i ∷ []) = []
-entryLines (k ∷ h ∷ l ∷ i ∷ a ∷ []) = []
-entryLines (k ∷ h ∷ l ∷ i ∷ a ∷ v ∷ list) = lineOf (fromBytes (k ∷ h ∷ l ∷ i ∷ a ∷ v ∷ [])) ++ entryLines list
+entryLines (e ∷ es) = entryLine e ++ entryLines es
 
 -- "A list is printed as header .. then one entry a line".
-unfoldable pub listText : (list : List ℕ) → List ℕ
-listText list = listHeader ++ entryLines list
-
--- Six bytes are an entry.
-abbrev pub isEntry : Option Entry → Bool
-isEntry none = false
-isEntry (some e) = true
-
--- Refusal 12: "list length no multiple of 6, or a kind outside 1 to 16".
-unfoldable pub isList : (list : List ℕ) → Bool
-isList [] = true
-isList (k ∷ []) = false
-isList (k ∷ h ∷ []) = false
-isList (k ∷ h ∷ l ∷ []) = false
-isList (k ∷ h ∷ l ∷ i ∷ []) = false
-isList (k ∷ h ∷ l ∷ i ∷ a ∷ []) = false
-isList (k ∷ h ∷ l ∷ i ∷ a ∷ v ∷ list) = isEntry (fromBytes (k ∷ h ∷ l ∷ i ∷ a ∷ v ∷ [])) && isList list
+unfoldable pub listText : List Entry → List ℕ
+listText es = listHeader ++ entryLines es

@@ -11,12 +11,20 @@ use Rattle.line.specs.Division.{topBit}
 use Rattle.line.specs.Memory.{Memory, allows, holds}
 use Rattle.line.specs.Slave.{more}
 use Rattle.line.specs.Chain.{answersFrom}
-use Rattle.line.specs.Entries.{Kind, Entry, entry}
+use Rattle.line.specs.Entries.{Kind, Event, event, Place, opened, Entry}
 use Rattle.line.specs.Reader.{columns, listFrom}
 
 -- The list that a reader makes of a master row and a chain's answers to it.
 abbrev pub listed : List Memory → List Bool → List Entry
 listed ks row = listFrom 0 (columns row (answersFrom ks row))
+
+-- A place in the row's frame ..
+abbrev pub frameAt : (column : ℕ) → Place
+frameAt column = opened column
+
+-- .. and an entry there.
+abbrev pub inFrame : (column : ℕ) → Event → Entry
+inFrame column e = record { place = frameAt column; event = e }
 
 -- R and W: "its right allows the access at that address", for so many addresses of the slave that holds the ID; numbers as in refusal 10.
 pub record Allowed (ks : List Memory) (k : Memory) (write : Bool) (id address count : ℕ) : Type 0 where
@@ -28,11 +36,11 @@ pub record Allowed (ks : List Memory) (k : Memory) (write : Bool) (id address co
 
 -- lock: "IDL8's column .. value = how many of IDL0..7 are 1, or 9 if IDL8 is 1 after eight".
 abbrev pub lockShown : List Memory → Entry
-lockShown ks = entry Kind.lock (restZeros + lockLast) 0 0 (min (idCount + 1) (length ks))
+lockShown ks = inFrame (restZeros + lockLast) (event Kind.lock 0 0 (min (idCount + 1) (length ks)))
 
 -- command: "last header column .. id = CMD, value = IDS".
 abbrev pub commandShown : (ids cmd : ℕ) → Entry
-commandShown ids cmd = entry Kind.command (restZeros + headerColumns) cmd 0 ids
+commandShown ids cmd = inFrame (restZeros + headerColumns) (event Kind.command cmd 0 ids)
 
 -- The column of S of byte i: 32 for byte 0, and fourteen more for each byte before it.
 abbrev pub byteColumn : ℕ → ℕ
@@ -40,7 +48,7 @@ byteColumn i = restZeros + 1 + headerColumns + 2 + (topBit + 3) * i
 
 -- read, written: "last check column"; the address is "that of the byte".
 abbrev pub byteShown : Kind → (id address i value : ℕ) → Entry
-byteShown kind id address i value = entry kind (byteColumn i + (topBit + 1)) id (address + i) value
+byteShown kind id address i value = inFrame (byteColumn i + (topBit + 1)) (event kind id (address + i) value)
 
 -- Byte i and those after it, an entry each.
 unfoldable pub bytesShown : Kind → (id address i : ℕ) → List ℕ → List Entry
@@ -55,4 +63,4 @@ standing k address (suc count) = holds k address ∷ standing k (address + 1) co
 -- closed: "P answered 1", of the last byte, byte i: exactly if the slave would not go on there.
 abbrev pub closing : Memory → (write : Bool) → (id address i : ℕ) → List Entry
 closing k write id address i =
-    cond (more k write (address + i) (i + 1)) [] (entry Kind.closed (byteColumn i + (topBit + 2)) id (address + i) 0 ∷ [])
+    cond (more k write (address + i) (i + 1)) [] (inFrame (byteColumn i + (topBit + 2)) (event Kind.closed id (address + i) 0) ∷ [])

@@ -1,89 +1,75 @@
--- The table of kinds by number: which numbers are kinds, and where the code's tables have their names and fields. Assumes nothing.
-use mathlib.Core.Path.{_≡_, refl, sym, ap, _∙_}
-use mathlib.Core.Bool.{Bool, true, false, cond, _&&_, false≢true}
+-- Where the code's tables have the kinds' names and fields. Assumes nothing.
+use mathlib.Core.Path.{_≡_, refl, sym, ap, subst, _∙_}
+use mathlib.Core.Bool.{Bool, true, false, cond, false≢true}
 use mathlib.Core.List.{List, [], _∷_, _++_}
-use mathlib.Core.Option.{none, some}
 use Prim.Native.Nat.{ℕ, zero, suc, _+_, _-_, _*_, _/_, _%_, _≤_, _<_}
 use native.Mathlib.Omega.{arith}
-use borrow.Author.Tests.{leb-true, leb-false, ne-eqb}
+use borrow.Author.Tests.{leb-true, ne-eqb}
 use lib.Dec.{leb, eqb}
 use lib.ListN.{length, getD, take, drop, replicate}
 use Rattle.line.specs.Bits.{num}
 use Rattle.line.specs.Text.{digit}
-use Rattle.line.specs.Entries.{Kind, number, kinds, numbered}
-use Rattle.laws.proofs.Every.{tested}
+use Rattle.line.specs.Entries.{Kind, number, table, numbered}
+use Rattle.line.specs.Pieces.{joined}
 use Rattle.laws.proofs.Table.{tabulate, tabulated, below}
-use Rattle.line.proofs.Text.{both}
-use Rattle.names.specs.Names.{isKind, kindLine, nameOf, names}
+use Rattle.line.proofs.Codec.{numbered-own}
+use Rattle.kinds.specs.Kinds.{isOne, isKind, kindOr, kindOf}
+use Rattle.kinds.proofs.Numbers.{last, no-kind, kind-low}
+use Rattle.names.specs.Names.{nameOf, names}
 
--- Every number of a part of the table is at most 16.
-upTo16 : List Kind → Bool
-upTo16 [] = true
-upTo16 (k ∷ ks) = leb (number k) 16 && upTo16 ks
+-- The room of a name.
+abbrev pub nameRoom : ℕ
+nameRoom = 8
 
-past : (ks : List Kind) (n : ℕ) → upTo16 ks ≡ true → 16 < n → numbered n ks ≡ none
-unfolding upTo16 numbered
-past [] n e h = refl
-past (k ∷ ks) n e h =
-    let parts = both (leb (number k) 16) (upTo16 ks) e in
-    let low : number k ≤ 16 = leb-true (number k) 16 (parts .0) in
-    rw (ne-eqb (number k) n (λ q. omega arith)) (past ks n (parts .1) h)
+-- A name fits into it: it does for each number up to the last kind's, and each kind has one of them.
+low-short : (n : ℕ) → n < suc last → length (nameOf n) ≤ nameRoom
+unfolding nameOf numbered
+low-short n h = leb-true _ nameRoom (below (suc last) (λ k. leb (length (nameOf k)) nameRoom) refl n h)
 
-past-kinds : (n : ℕ) → 16 < n → isKind n ≡ false
-unfolding isKind upTo16
-past-kinds n h = rw (past kinds n refl h)
+own-kind : (k : Kind) → isKind (number k) ≡ true
+unfolding isKind
+own-kind k = ap isOne (numbered-own k)
 
--- 1 to 16 are kinds, and no other number is.
-is-kinds : (n : ℕ) → n < 16 → isKind (suc n) ≡ true
-unfolding isKind numbered
-is-kinds = below 16 (λ k. isKind (suc k)) refl
+pub kind-short : (k : Kind) → length (table k .name) ≤ nameRoom
+unfolding nameOf
+kind-short k =
+    subst (λ (j : Kind). length (table j .name) ≤ nameRoom) (ap kindOr (numbered-own k))
+    (low-short (number k) (omega (arith, kind-low (number k) (own-kind k))))
 
-pub no-kind : isKind 0 ≡ false
-unfolding isKind numbered
-no-kind = refl
-
-pub up-to-last : (n : ℕ) → (n ≡ 0 → ⊥) → leb n 16 ≡ isKind n
-up-to-last zero h = absurd (h refl)
-up-to-last (suc n) h =
-    tested (leb (suc n) 16) (λ q. rw (q, is-kinds n (omega (arith, leb-true)))) (λ q. rw (q, past-kinds (suc n) (leb-false (suc n) 16 q)))
-
-pub kind-low : (n : ℕ) → isKind n ≡ true → n ≤ 16
-kind-low n e =
-    tested (leb n 16) (λ q. leb-true n 16 q) (λ q. absurd (false≢true (sym (past-kinds n (leb-false n 16 q)) ∙ e)))
-
--- A name has at most eight bytes.
-pub name-short : (k : ℕ) → k < 17 → length (nameOf k) ≤ 8
-unfolding nameOf kindLine numbered
-name-short k h = leb-true _ 8 (below 17 (λ n. leb (length (nameOf n)) 8) refl k h)
+pub name-short : (n : ℕ) → length (nameOf n) ≤ nameRoom
+unfolding nameOf
+name-short n = kind-short (kindOf n)
 
 -- What fills a table's room.
 abbrev blank : ℕ
 blank = 32
 
--- The names one behind the other, with eight bytes of room for each: a name is its part of them.
+-- The names one behind the other, behind the room of 0: a name is its part of them.
 abbrev padded : ℕ → List ℕ
-padded n = nameOf n ++ replicate (8 - length (nameOf n)) blank
-
-abbrev joined : List (List ℕ) → List ℕ
-joined [] = []
-joined (l ∷ ls) = l ++ joined ls
+padded n = nameOf n ++ replicate (nameRoom - length (nameOf n)) blank
 
 abbrev pub nameTable : List ℕ
-nameTable = joined (tabulate padded 0 17)
+nameTable = replicate nameRoom blank ++ joined (tabulate padded 1 last)
 
-name-at : (k : ℕ) → k < 17 → take (length (nameOf k)) (drop (8 * k) nameTable) ≡ nameOf k
-unfolding nameOf kindLine numbered
-name-at k h =
-    sym (tabulated (λ n. take (length (nameOf n)) (drop (8 * n) nameTable)) [] 17 k h) ∙ tabulated nameOf [] 17 k h
+name-at : (k : ℕ) → isKind k ≡ true → take (length (nameOf k)) (drop (nameRoom * k) nameTable) ≡ nameOf k
+unfolding nameOf numbered joined
+name-at zero h = absurd (false≢true (sym no-kind ∙ h))
+name-at (suc k) h =
+    let low : k < last = kind-low (suc k) h in
+    sym (tabulated (λ n. take (length (nameOf (suc n))) (drop (nameRoom * suc n) nameTable)) [] last k low)
+    ∙ tabulated (λ n. nameOf (suc n)) [] last k low
 
-pub name-part : (k end : ℕ) → k < 17 → end ≡ 8 * k + length (nameOf k) → take (end - 8 * k) (drop (8 * k) nameTable) ≡ nameOf k
+pub name-part : (k end : ℕ) → isKind k ≡ true → end ≡ nameRoom * k + length (nameOf k)
+    → take (end - nameRoom * k) (drop (nameRoom * k) nameTable) ≡ nameOf k
 name-part k end h e =
-    let long : end - 8 * k ≡ length (nameOf k) = omega arith in
-    ap (λ (n : ℕ). take n (drop (8 * k) nameTable)) long ∙ name-at k h
+    let long : end - nameRoom * k ≡ length (nameOf k) = omega arith in
+    ap (λ (n : ℕ). take n (drop (nameRoom * k) nameTable)) long ∙ name-at k h
 
 -- The lengths of the names, a digit each.
-pub length-at : (k : ℕ) → k < 17 → getD (tabulate (λ n. digit (length (nameOf n))) 0 17) k 0 ≡ digit (length (nameOf k))
-length-at k h = tabulated (λ n. digit (length (nameOf n))) 0 17 k h
+pub length-at : (k : ℕ) → isKind k ≡ true
+    → getD (digit 0 ∷ tabulate (λ n. digit (length (nameOf n))) 1 last) k 0 ≡ digit (length (nameOf k))
+length-at zero h = absurd (false≢true (sym no-kind ∙ h))
+length-at (suc k) h = tabulated (λ n. digit (length (nameOf (suc n)))) 0 last k (kind-low (suc k) h)
 
 -- The fields one behind the other, a digit each, with a blank behind the three of a kind.
 abbrev pub fieldDigit : ℕ → ℕ
@@ -93,10 +79,11 @@ is-one : (b : Bool) → eqb (digit (num b)) (digit 1) ≡ b
 is-one true = refl
 is-one false = refl
 
-pub field-at : (k field : ℕ) → k < 17 → field < 3
-    → eqb (getD (tabulate fieldDigit 0 68) (4 * k + field) 0) (digit 1) ≡ names k field
+pub field-at : (k field : ℕ) → isKind k ≡ true → field < 3
+    → eqb (getD (tabulate fieldDigit 0 (4 * suc last)) (4 * k + field) 0) (digit 1) ≡ names k field
 field-at k field h l =
+    let low = kind-low k h in
     let kind : (4 * k + field) / 4 ≡ k = omega arith in
     let which : (4 * k + field) % 4 ≡ field = omega arith in
     let some : eqb field 3 ≡ false = ne-eqb field 3 (λ q. omega arith) in
-    rw (tabulated fieldDigit 0 68 (4 * k + field) (omega arith), kind, which, some) (is-one (names k field))
+    rw (tabulated fieldDigit 0 (4 * suc last) (4 * k + field) (omega arith), kind, which, some) (is-one (names k field))

@@ -1,24 +1,22 @@
 -- Every field of an entry that rows show is a byte, and its column is one of theirs: what a reader holds in each phase. Assumes nothing.
-use mathlib.Core.Path.{_≡_}
 use mathlib.Core.Bool.{Bool, true, false, _&&_, _||_, Bool·beq}
 use mathlib.Core.List.{List, [], _∷_}
 use mathlib.Core.Option.{Option, none, some}
-use Prim.Native.Nat.{ℕ, zero, suc, _+_, _-_, _*_, _/_, _%_, _^_, _≤_, _<_}
+use Prim.Native.Nat.{ℕ, zero, suc, _+_, _-_, _/_, _%_, _^_, _≤_, _<_}
 use native.Mathlib.Omega.{arith}
 use borrow.Author.Tests.{ltb-true}
 use lib.Dec.{ltb}
-use lib.ListN.{length, length-drop, drop}
+use lib.ListN.{length, length-drop}
 use Rattle.line.specs.Limits.{headerColumns, lockFirst, lockLast, registerCount, byteLimit}
 use Rattle.line.specs.Bits.{num, bit, push, rowOf}
 use Rattle.line.specs.Rest.{Timed, powerOn}
 use Rattle.line.specs.Division.{headerBits, checkWidth, fits, byteOf}
 use Rattle.line.specs.Header.{Header, wrong, access, command, header}
-use Rattle.line.specs.Entries.{Kind, table, Entry, entry}
+use Rattle.line.specs.Entries.{Kind, table, Event, event, Place, opened, onward, Entry}
 use Rattle.line.specs.Reader.{Locks, ones, upto, mixed, seen, shown, Phase, deaf, locks, head, askR, askW, byteS, reads, writes, askP, Look, locked, headed, oddAnswer, asked, readKind, writeKind, look, step, Column, col, columns, entries, listFrom}
 use Rattle.laws.proofs.Every.{Every, IfAny, either, tested}
 use Rattle.line.proofs.Machine.{At, keeps, every-note}
 use Rattle.line.proofs.Text.{both}
-use Rattle.line.proofs.Late.{in-step}
 use Rattle.read.specs.Read.{listOf}
 use Rattle.read.proofs.Left.{length-columns}
 
@@ -26,12 +24,12 @@ use Rattle.read.proofs.Left.{length-columns}
 abbrev Byte : ℕ → Type 0
 Byte n = n < 256
 
--- The fields of an entry beside its column.
-abbrev Bytes : Entry → Type 0
+-- The fields of an event.
+abbrev Bytes : Event → Type 0
 Bytes e = Byte (e .id) × Byte (e .address) × Byte (e .value)
 
-entry-bytes : (k : Kind) (c id address value : ℕ) → Byte id → Byte address → Byte value → Bytes (entry k c id address value)
-entry-bytes k c id address value i a v =
+event-bytes : (k : Kind) (id address value : ℕ) → Byte id → Byte address → Byte value → Bytes (event k id address value)
+event-bytes k id address value i a v =
     let none : Byte 0 = omega arith in
     (either Byte (table k .has-id) i none, either Byte (table k .has-address) a none, either Byte (table k .has-value) v none)
 
@@ -68,11 +66,11 @@ held-shown : (column : ℕ) (l : Locks) (x : Bool) → column ≤ lockLast → C
 held-shown column l x h c =
     either Counted (ltb column lockFirst) c (held-seen (column - lockFirst) l x (omega arith) c)
 
-good-locked : (c column so-far : ℕ) (l : Locks) → Counted l → Good (locked c column so-far l)
+good-locked : (column so-far : ℕ) (l : Locks) → Counted l → Good (locked column so-far l)
 unfolding locked
-good-locked c column so-far ones h = (tt, entry-bytes Kind.lock c 0 0 9 (omega arith) (omega arith) (omega arith))
-good-locked c column so-far (upto n) h = (tt, entry-bytes Kind.lock c 0 0 n (omega arith) (omega arith) h)
-good-locked c column so-far mixed h = (tt, entry-bytes Kind.lockodd c 0 0 0 (omega arith) (omega arith) (omega arith))
+good-locked column so-far ones h = (tt, event-bytes Kind.lock 0 0 9 (omega arith) (omega arith) (omega arith))
+good-locked column so-far (upto n) h = (tt, event-bytes Kind.lock 0 0 n (omega arith) (omega arith) h)
+good-locked column so-far mixed h = (tt, event-bytes Kind.lockodd 0 0 0 (omega arith) (omega arith) (omega arith))
 
 abbrev Said : Header → Type 0
 Said wrong = Unit {0}
@@ -90,88 +88,88 @@ said-header w =
     commanded : (v : ℕ) → Said (command (v / 2 ^ 2 % 2 ^ 8) (v % 2 ^ 2))
     commanded v = (omega arith, omega arith)
 
-good-headed : (c : ℕ) (h : Header) (lock : ℕ) → Said h → Good (headed c h lock)
+good-headed : (h : Header) (lock : ℕ) → Said h → Good (headed h lock)
 unfolding headed
-good-headed c wrong lock h = (tt, entry-bytes Kind.badhead c 0 0 0 (omega arith) (omega arith) (omega arith))
-good-headed c (access id address) lock h = (h, tt)
-good-headed c (command ids cmd) lock h = (tt, entry-bytes Kind.command c cmd 0 ids (h .1) (omega arith) (h .0))
+good-headed wrong lock h = (tt, event-bytes Kind.badhead 0 0 0 (omega arith) (omega arith) (omega arith))
+good-headed (access id address) lock h = (h, tt)
+good-headed (command ids cmd) lock h = (tt, event-bytes Kind.command cmd 0 ids (h .1) (omega arith) (h .0))
 
 -- The answers at W.
 num-low : (w : Bool) → num w < 2
 num-low true = omega arith
 num-low false = omega arith
 
-module _ (c id address : ℕ) (i : Byte id) (a : Byte address) where
-  good-entry : (k : Kind) (value : ℕ) → Byte value → Bytes (entry k c id address value)
-  good-entry k value v = entry-bytes k c id address value i a v
+module _ (id address : ℕ) (i : Byte id) (a : Byte address) where
+  good-event : (k : Kind) (value : ℕ) → Byte value → Bytes (event k id address value)
+  good-event k value v = event-bytes k id address value i a v
 
-  good-asked : (lock : ℕ) (r answeredR w answeredW : Bool) → Good (asked c id address lock r answeredR w answeredW)
+  good-asked : (lock : ℕ) (r answeredR w answeredW : Bool) → Good (asked id address lock r answeredR w answeredW)
   unfolding asked
   good-asked lock r answeredR w answeredW =
-      let other : Good (oddAnswer c id address answeredR answeredW) = (tt, good-entry Kind.odd _ (omega (arith, num-low answeredR, num-low answeredW))) in
-      either Good (Bool·beq r w) (tt, good-entry Kind.pair 0 (omega arith))
+      let other : Good (oddAnswer id address answeredR answeredW) = (tt, good-event Kind.odd _ (omega (arith, num-low answeredR, num-low answeredW))) in
+      either Good (Bool·beq r w) (tt, good-event Kind.pair 0 (omega arith))
       (either Good (ltb id lock)
       (either Good (Bool·beq answeredR r)
-      (either Good (Bool·beq answeredW w) ((i, a), tt) (tt, good-entry Kind.refused _ (omega (arith, num-low w)))) other)
-      (either Good (answeredR || answeredW) other (tt, good-entry Kind.absent 0 (omega arith))))
+      (either Good (Bool·beq answeredW w) ((i, a), tt) (tt, good-event Kind.refused _ (omega (arith, num-low w)))) other)
+      (either Good (answeredR || answeredW) other (tt, good-event Kind.absent 0 (omega arith))))
 
 byte-of : (w : ℕ) → Byte (byteOf w)
 unfolding byteOf
 byte-of w = omega arith
 
-good-look : (c : ℕ) (p : Phase) (m x : Bool) → Held p → Good (look c p m x)
+good-look : (p : Phase) (m x : Bool) → Held p → Good (look p m x)
 unfolding look
-good-look c deaf m x h = (tt, tt)
-good-look c (locks column so-far l) m x h =
+good-look deaf m x h = (tt, tt)
+good-look (locks column so-far l) m x h =
     let counted = held-shown column l x (h .0) (h .1) in
     tested (ltb column lockLast) (λ q. rw q ((omega (arith, ltb-true column lockLast q), counted), tt))
-    (λ q. rw q (good-locked c column (push so-far m) _ counted))
-good-look c (head column so-far lock) m x h =
-    either Good (ltb column headerColumns) (tt, tt) (good-headed c _ lock (said-header (push so-far m)))
-good-look c (askR id address lock) m x h = (h, tt)
-good-look c (askW id address lock r answered) m x h = good-asked c id address (h .0) (h .1) lock r answered m x
-good-look c (byteS write id address nth) false x h = (tt, tt)
-good-look c (byteS write id address nth) true false h = (tt, good-entry c id address (h .0) (h .1) Kind.mute 0 (omega arith))
-good-look c (byteS false id address nth) true true h = (h, tt)
-good-look c (byteS true id address nth) true true h = (h, tt)
-good-look c (reads id address nth (suc left) so-far) m x h = (h, tt)
-good-look c (reads id address nth zero so-far) m x h = (h, good-entry c id address (h .0) (h .1) (readKind (push so-far x)) _ (byte-of (push so-far x)))
-good-look c (writes id address nth (suc left) so-far echoed) m x h = (h, tt)
-good-look c (writes id address nth zero so-far echoed) m x h = (h, good-entry c id address (h .0) (h .1) (writeKind (push so-far m) (echoed && Bool·beq x m)) _ (byte-of (push so-far m)))
-good-look c (askP write id address nth) m true h = (tt, good-entry c id address (h .0) (h .1) Kind.closed 0 (omega arith))
-good-look c (askP write id address nth) m false h =
+    (λ q. rw q (good-locked column (push so-far m) _ counted))
+good-look (head column so-far lock) m x h =
+    either Good (ltb column headerColumns) (tt, tt) (good-headed _ lock (said-header (push so-far m)))
+good-look (askR id address lock) m x h = (h, tt)
+good-look (askW id address lock r answered) m x h = good-asked id address (h .0) (h .1) lock r answered m x
+good-look (byteS write id address nth) false x h = (tt, tt)
+good-look (byteS write id address nth) true false h = (tt, good-event id address (h .0) (h .1) Kind.mute 0 (omega arith))
+good-look (byteS false id address nth) true true h = (h, tt)
+good-look (byteS true id address nth) true true h = (h, tt)
+good-look (reads id address nth (suc left) so-far) m x h = (h, tt)
+good-look (reads id address nth zero so-far) m x h = (h, good-event id address (h .0) (h .1) (readKind (push so-far x)) _ (byte-of (push so-far x)))
+good-look (writes id address nth (suc left) so-far echoed) m x h = (h, tt)
+good-look (writes id address nth zero so-far echoed) m x h = (h, good-event id address (h .0) (h .1) (writeKind (push so-far m) (echoed && Bool·beq x m)) _ (byte-of (push so-far m)))
+good-look (askP write id address nth) m true h = (tt, good-event id address (h .0) (h .1) Kind.closed 0 (omega arith))
+good-look (askP write id address nth) m false h =
     tested (ltb (address + 1) registerCount && ltb nth byteLimit)
     (λ q.
     let next : address + 1 < registerCount = ltb-true _ _ (both _ _ q .0) in
     rw q ((h .0, omega arith), tt))
-    (λ q. rw q (tt, good-entry c id address (h .0) (h .1) Kind.odd 4 (omega arith)))
+    (λ q. rw q (tt, good-event id address (h .0) (h .1) Kind.odd 4 (omega arith)))
 
 -- The same behind the timer.
-good-step : (c : ℕ) (s : Timed Phase) (m x : Bool) → At Held s → At Held (step c s m x .state) × IfAny Bytes (step c s m x .says)
+good-step : (s : Timed Phase) (m x : Bool) → At Held s → At Held (step s m x .state) × IfAny Bytes (step s m x .says)
 unfolding step
-good-step c s m x h =
-    keeps Held (omega arith, tt) (IfAny Bytes) tt (entry-bytes Kind.end c 0 0 0 (omega arith) (omega arith) (omega arith))
-    (λ p g. good-look c p m x g) s m h
+good-step s m x h =
+    keeps Held (omega arith, tt) (IfAny Bytes) tt (event-bytes Kind.end 0 0 0 (omega arith) (omega arith) (omega arith))
+    (λ p g. good-look p m x g) s m h
 
--- An entry of six bytes: a column below the limit, and fields that are bytes.
+-- A column below the limit, and fields that are bytes.
 abbrev pub Small : (limit : ℕ) → Entry → Type 0
-Small limit e = (e .column < limit) × Bytes e
+Small limit e = (e .place .column < limit) × Bytes (e .event)
 
-small-entries : (s : Timed Phase) (c : ℕ) (cs : List Column) (limit : ℕ) → At Held s → c + length cs ≤ limit → Every (Small limit) (entries s c cs)
+small-entries : (s : Timed Phase) (p : Place) (cs : List Column) (limit : ℕ) → At Held s → p .column + length cs ≤ limit
+    → Every (Small limit) (entries s p cs)
 unfolding entries
-small-entries s c [] limit h l = tt
-small-entries s c (col m x ∷ cs) limit h l =
-    let good = good-step c s m x h in
-    every-note (Small limit) (step c s m x .says) (entries (step c s m x .state) (suc c) cs)
-    (here (step c s m x .says) (in-step c s m x) (good .1))
-    (small-entries (step c s m x .state) (suc c) cs limit (good .0) (omega arith))
+small-entries s p [] limit h l = tt
+small-entries s p (col m x ∷ cs) limit h l =
+    let good = good-step s m x h in
+    every-note (Small limit) p (step s m x .says) (entries (step s m x .state) (onward s m p) cs) (here (step s m x .says) (good .1))
+    (small-entries (step s m x .state) (onward s m p) cs limit (good .0) (omega arith))
   where
-    here : (o : Option Entry) → IfAny (λ e. e .column ≡ c) o → IfAny Bytes o → IfAny (Small limit) o
-    here none q b = tt
-    here (some e) q b = (omega arith, b)
+    here : (o : Option Event) → IfAny Bytes o → IfAny (λ e. Small limit (record { place = p; event = e })) o
+    here none b = tt
+    here (some e) b = (omega arith, b)
 
 pub small-list : (k : ℕ) (cdm cds : List ℕ) → k ≤ length cdm → Every (Small (length cdm)) (listOf k cdm cds)
 unfolding listOf listFrom
 small-list k cdm cds h =
-    small-entries powerOn k _ (length cdm) tt
+    small-entries powerOn (opened k) _ (length cdm) tt
     (omega (arith, length-drop k (columns (rowOf cdm) (rowOf cds)), length-columns cdm cds))

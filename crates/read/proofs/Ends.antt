@@ -1,22 +1,23 @@
 -- How read ends: the refusals of the rows in the words of their branches, what lets rows through, and the ends. Assumes nothing.
-use mathlib.Core.Path.{_≡_, sym, ap, _∙_}
+use mathlib.Core.Path.{_≡_, sym, _∙_}
 use mathlib.Core.Bool.{Bool, true, false}
-use mathlib.Core.List.{List, [], _∷_, _++_, append-assoc}
+use mathlib.Core.List.{List}
 use mathlib.Core.Option.{none}
-use Prim.Native.Nat.{ℕ, _/_, _≤_, _<_}
+use Prim.Native.Nat.{ℕ, _≤_, _<_}
 use native.Mathlib.Omega.{arith}
 use borrow.Author.Tests.{lt-ltb, le-ltb, ltb-false, leb-true, leb-false, eqb-true, not-false}
 use lib.Dec.{ltb, leb}
 use lib.ListN.{length}
-use Rattle.line.specs.Entries.{listBytes}
-use Rattle.job.specs.Refusals.{when, first, given, left}
+use Rattle.line.specs.Layout.{current, listBytes}
+use Rattle.line.proofs.Codec.{length-list}
+use Rattle.job.specs.Refusals.{first, given, left}
 use Rattle.job.specs.Rows.{rowRules, wrongRows}
 use Rattle.job.specs.declared.Outcome.the-variants.{Made, Refused}
 use Rattle.job.specs.declared.Detail.the-variants.{Alone}
 use Rattle.job.proofs.Refusals.{no, no-either, gave-none, stays, passes, ended-given, ended-made}
-use Rattle.read.specs.Read.{listOf, refusals, Listed}
-use Rattle.read.specs.Parts.{rowsRefusals, Rows, filled}
-use Rattle.read.proofs.Filled.{length-bytes, filled-all}
+use Rattle.read.specs.Read.{rowsRefusals, listOf, refusals, Listed}
+use Rattle.read.specs.Parts.{Rows, roomOf, keptAll}
+use Rattle.read.proofs.Kept.{kept-whole}
 
 module _ (cdm cds : List ℕ) (k : ℕ) where
   -- The refusals of the rows in the words of their branches.
@@ -46,39 +47,35 @@ module _ (cdm cds : List ℕ) (k : ℕ) where
 
   module _ (out : List ℕ) where
     abbrev crowded : Bool
-    crowded = ltb (length out) (length (listBytes (listOf k cdm cds)))
-
-    -- Behind the refusals of the rows comes 9.
-    then-nine : refusals cdm cds k (length out) ≡ rowsRefusals cdm cds k ++ when crowded 9 ∷ []
-    unfolding refusals rowsRefusals
-    then-nine = sym (append-assoc (wrongRows cdm cds) _ _)
+    crowded = ltb (length out) (length (listBytes current (listOf k cdm cds)))
 
     -- Refused by the rows.
     pub rows-refused : (why : ℕ) → given why ≡ first (rowsRefusals cdm cds k) → (why ≡ 0 → ⊥)
         → Listed cdm cds k out (Refused why Alone) out
-    rows-refused why e h = record { ends = ended-given _ _ _ why (rw then-nine (stays (rowsRefusals cdm cds k) _ why e h)) h }
+    unfolding refusals
+    rows-refused why e h = record { ends = ended-given _ _ _ why (stays (rowsRefusals cdm cds k) _ why e h) h }
 
     module _ (through : first (rowsRefusals cdm cds k) ≡ none) where
       -- Let through by the rows, room decides.
       nine : crowded ≡ true → given 9 ≡ first (refusals cdm cds k (length out))
-      unfolding first
-      nine e = sym (ap first then-nine ∙ passes (rowsRefusals cdm cds k) _ through ∙ rw e)
+      unfolding first refusals
+      nine e = sym (passes (rowsRefusals cdm cds k) _ through ∙ rw e)
 
-      pub not-refused : length (listBytes (listOf k cdm cds)) ≤ length out → first (refusals cdm cds k (length out)) ≡ none
-      unfolding first
-      not-refused h = ap first then-nine ∙ passes (rowsRefusals cdm cds k) _ through ∙ rw (le-ltb _ _ h)
+      pub not-refused : length (listBytes current (listOf k cdm cds)) ≤ length out → first (refusals cdm cds k (length out)) ≡ none
+      unfolding first refusals
+      not-refused h = passes (rowsRefusals cdm cds k) _ through ∙ rw (le-ltb _ _ h)
 
-      module _ (f : Bool) (fits : f ≡ leb (length (listOf k cdm cds)) (length out / 6)) where
+      module _ (f : Bool) (fits : f ≡ leb (length (listOf k cdm cds)) (roomOf out)) where
         pub room-refused : f ≡ false → (after : List ℕ) → after ≡ out → Listed cdm cds k out (Refused 9 Alone) after
         room-refused e after stays =
-            let few : length out / 6 < length (listOf k cdm cds) = leb-false _ _ (sym fits ∙ e) in
-            let more : length out < length (listBytes (listOf k cdm cds)) = omega (arith, length-bytes (listOf k cdm cds)) in
+            let few : roomOf out < length (listOf k cdm cds) = leb-false _ _ (sym fits ∙ e) in
+            let more : length out < length (listBytes current (listOf k cdm cds)) = omega (arith, length-list current (listOf k cdm cds)) in
             rw stays (record { ends = ended-given _ _ _ 9 (nine (lt-ltb _ _ more)) (λ z. omega arith) })
 
         pub list-made : f ≡ true → (n : ℕ) (between after : List ℕ) → between ≡ out → n ≡ length (listOf k cdm cds)
-            → after ≡ filled (listOf k cdm cds) between → Listed cdm cds k out (Made n) after
+            → after ≡ keptAll between 0 (listOf k cdm cds) → Listed cdm cds k out (Made n) after
         unfolding left
         list-made e n between after stays count laid =
-            let enough : length (listOf k cdm cds) ≤ length out / 6 = leb-true _ _ (sym fits ∙ e) in
-            let no-more : length (listBytes (listOf k cdm cds)) ≤ length out = omega (arith, length-bytes (listOf k cdm cds)) in
-            record { ends = ended-made _ _ _ n _ (not-refused no-more) count (rw (laid, stays, filled-all (listOf k cdm cds) out enough)) }
+            let enough : length (listOf k cdm cds) ≤ roomOf out = leb-true _ _ (sym fits ∙ e) in
+            let no-more : length (listBytes current (listOf k cdm cds)) ≤ length out = omega (arith, length-list current (listOf k cdm cds)) in
+            record { ends = ended-made _ _ _ n _ (not-refused no-more) count (rw (laid, stays, kept-whole (listOf k cdm cds) out enough)) }

@@ -1,40 +1,37 @@
--- What is left to list from a column on, and what one step of the reader makes of it. Assumes nothing.
+-- What a reading makes of one column, and of the rows from a column on. Assumes nothing.
 use mathlib.Core.Path.{_≡_, refl, sym, ap, _∙_}
+use mathlib.Core.Bool.{Bool}
 use mathlib.Core.List.{List, [], _∷_}
-use mathlib.Core.Option.{Option, none, some}
+use mathlib.Core.Option.{Option, none, some, Option·none-ne-some}
 use Prim.Native.Nat.{ℕ, zero, suc, _+_, _-_, _≤_, _<_}
-use native.Mathlib.Nat.{le-of-suc-le-suc, not-suc-le-zero}
+use native.Mathlib.Nat.{le-of-suc-le-suc, not-suc-le-zero, add-zero, zero-add}
 use native.Mathlib.Numerals.{add-one}
 use native.Mathlib.Omega.{arith}
-use lib.ListN.{length, drop, getD, drop-of-length-le, length-drop}
+use lib.ListN.{length, take, drop, getD, drop-of-length-le, length-drop}
+use lib.Seq.{take-all}
 use Rattle.line.specs.Bits.{bitOf, rowOf}
 use Rattle.line.specs.Rest.{Timed, powerOn}
-use Rattle.line.specs.Entries.{Entry, note, bytesOf}
-use Rattle.line.specs.Reader.{Phase, Column, col, step, columns, entries, listFrom}
-use Rattle.reader.specs.Code.{stateOf, Moved, entryOf, moved, after, Steps}
+use Rattle.line.specs.Entries as line
+use Rattle.line.specs.Entries.{Kind, number, kinds, numbered, opened, onward, note}
+use Rattle.line.specs.Layout.{fieldBytes, bytesOf}
+use Rattle.line.specs.Reader as Reader
+use Rattle.line.specs.Reader.{Phase, Column, col, columns, entries, placeAfter, listFrom}
+use Rattle.line.proofs.Codec.{numbered-own}
+use Rattle.reader.specs.Code.{stateOf, Moved, eventOf, moved, after, Steps}
+use Rattle.reader.specs.declared.Event.{Event}
 use Rattle.reader.specs.declared.Stepped.{Stepped}
 use Rattle.read.specs.Read.{listOf}
-use Rattle.read.specs.Parts.{sixOf}
-use Rattle.line.proofs.Late.{in-step}
-use Rattle.read.proofs.Placed.{silent, given}
+use Rattle.read.specs.Parts.{placeOf, bytesFor, kept, keptAll, Reached, reached}
+use Rattle.read.specs.declared.Place.{Place}
 
--- The entries from column k on, to a reader in state s.
-unfoldable pub left : Timed Phase → (k : ℕ) → (cdm cds : List ℕ) → List Entry
-left s k cdm cds = entries s k (drop k (columns (rowOf cdm) (rowOf cds)))
-
--- At the opening all is left.
-pub all-left : (s : Timed Phase) (k : ℕ) (cdm cds : List ℕ) → s ≡ powerOn → listOf k cdm cds ≡ left s k cdm cds
-unfolding left listOf listFrom
-all-left s k cdm cds e = rw e
-
--- The column at k stands first of what is left ..
-column-here : (k : ℕ) (ms xs : List ℕ) → k < length ms → k < length xs
-    → drop k (columns (rowOf ms) (rowOf xs)) ≡ col (bitOf (getD ms k 0)) (bitOf (getD xs k 0)) ∷ drop (suc k) (columns (rowOf ms) (rowOf xs))
+-- The column at i stands first of what is left ..
+column-here : (i : ℕ) (ms xs : List ℕ) → i < length ms → i < length xs
+    → drop i (columns (rowOf ms) (rowOf xs)) ≡ col (bitOf (getD ms i 0)) (bitOf (getD xs i 0)) ∷ drop (suc i) (columns (rowOf ms) (rowOf xs))
 unfolding columns rowOf
-column-here k [] xs h g = absurd (not-suc-le-zero h)
-column-here k (m ∷ ms) [] h g = absurd (not-suc-le-zero g)
+column-here i [] xs h g = absurd (not-suc-le-zero h)
+column-here i (m ∷ ms) [] h g = absurd (not-suc-le-zero g)
 column-here zero (m ∷ ms) (x ∷ xs) h g = refl
-column-here (suc k) (m ∷ ms) (x ∷ xs) h g = column-here k ms xs (le-of-suc-le-suc h) (le-of-suc-le-suc g)
+column-here (suc i) (m ∷ ms) (x ∷ xs) h g = column-here i ms xs (le-of-suc-le-suc h) (le-of-suc-le-suc g)
 
 -- .. and past the last there is none.
 pub length-columns : (ms xs : List ℕ) → length (columns (rowOf ms) (rowOf xs)) ≤ length ms
@@ -43,65 +40,123 @@ length-columns [] xs = omega arith
 length-columns (m ∷ ms) [] = omega arith
 length-columns (m ∷ ms) (x ∷ xs) = omega (arith, length-columns ms xs)
 
-pub none-left : (s : Timed Phase) (k : ℕ) (cdm cds : List ℕ) → length cdm ≤ k → left s k cdm cds ≡ []
-unfolding left entries
-none-left s k cdm cds h =
-    let short : length (columns (rowOf cdm) (rowOf cds)) ≤ k = omega (arith, length-columns cdm cds) in
-    rw (drop-of-length-le (columns (rowOf cdm) (rowOf cds)) short)
-
 -- "At most one entry falls in a column."
-length-note : (o : Option Entry) (es : List Entry) → length (note o es) ≤ 1 + length es
-length-note none es = omega arith
-length-note (some e) es = omega arith
+length-note : (p : line.Place) (o : Option line.Event) (es : List line.Entry) → length (note p o es) ≤ 1 + length es
+length-note p none es = omega arith
+length-note p (some e) es = omega arith
 
-length-entries : (s : Timed Phase) (c : ℕ) (cs : List Column) → length (entries s c cs) ≤ length cs
+length-entries : (s : Timed Phase) (p : line.Place) (cs : List Column) → length (entries s p cs) ≤ length cs
 unfolding entries
-length-entries s c [] = omega arith
-length-entries s c (col m x ∷ cs) =
-    omega (arith, length-note (step c s m x .says) (entries (step c s m x .state) (suc c) cs), length-entries (step c s m x .state) (suc c) cs)
+length-entries s p [] = omega arith
+length-entries s p (col m x ∷ cs) =
+    let t : Reader.Step = Reader.step s m x in
+    omega (arith, length-note p (t .says) (entries (t .state) (onward s m p) cs), length-entries (t .state) (onward s m p) cs)
 
-pub length-list : (k : ℕ) (cdm cds : List ℕ) → length (listOf k cdm cds) ≤ length cdm - k
+pub length-listed : (k : ℕ) (cdm cds : List ℕ) → length (listOf k cdm cds) ≤ length cdm - k
 unfolding listOf listFrom
-length-list k cdm cds =
+length-listed k cdm cds =
     omega (
       arith,
-      length-entries powerOn k (drop k (columns (rowOf cdm) (rowOf cds))),
+      length-entries powerOn (opened k) (drop k (columns (rowOf cdm) (rowOf cds))),
       length-drop k (columns (rowOf cdm) (rowOf cds)),
       length-columns cdm cds,
     )
 
--- One column on.
-module _ (cdm cds : List ℕ) (k : ℕ) (s : Timed Phase) (r : Stepped) (h : k < length cdm) (same : length cdm ≡ length cds)
-    (steps : Steps s (bitOf (getD cdm k 0)) (bitOf (getD cds k 0)) r) where
-  abbrev says : Option Entry
-  says = step k s (bitOf (getD cdm k 0)) (bitOf (getD cds k 0)) .says
+-- No kind has the number 0, by which the code says that there is no event.
+not-zero : (k : Kind) → number k ≡ 0 → ⊥
+unfolding numbered
+not-zero k e = Option·none-ne-some k (ap (λ (n : ℕ). numbered n kinds) (sym e) ∙ numbered-own k)
 
-  left-more : left s k cdm cds ≡ note says (left (stateOf (r .next)) (k + 1) cdm cds)
-  unfolding left entries after moved
-  left-more =
-      let g : k < length cds = omega arith in
-      rw (column-here k cdm cds h g, add-one, ap (λ (v : Moved). v .state) (steps .meets k))
+-- A column without an event, and one with: what is reached from it is what is reached from behind it.
+module _ (s : Timed Phase) (m x : Bool) (p : Place) (n : ℕ) (out : List ℕ) (cs : List Column) where
+  abbrev next : Reader.Step
+  next = Reader.step s m x
 
-  entry-said : r .entry ≡ entryOf says
+  abbrev from : ℕ → List ℕ → Reached
+  from n′ out′ = reached (next .state) (onward s m (placeOf p)) n′ out′ cs
+
+  silent : (o : Option line.Event) → next .says ≡ o → eventOf o .kind ≡ 0
+      → reached s (placeOf p) n out (col m x ∷ cs) ≡ from n out
+  unfolding reached entries placeAfter Reader.after
+  silent none q e = rw q
+  silent (some a) q e = absurd (not-zero (a .kind) e)
+
+  given : (o : Option line.Event) → next .says ≡ o → (eventOf o .kind ≡ 0 → ⊥)
+      → reached s (placeOf p) n out (col m x ∷ cs) ≡ from (n + 1) (kept out n (bytesFor p (eventOf o)))
+  unfolding reached entries placeAfter Reader.after keptAll bytesFor bytesOf fieldBytes
+  given none q h = absurd (h refl)
+  given (some a) q h =
+      let es : List line.Entry = entries (next .state) (onward s m (placeOf p)) cs in
+      let out′ : List ℕ = kept out n (bytesFor p (eventOf (some a))) in
+      rw q
+      (ap (λ (k : ℕ). record {
+        state = Reader.after (next .state) cs;
+        place = placeAfter (next .state) (onward s m (placeOf p)) cs;
+        count = k;
+        buffer = keptAll out′ (n + 1) es;
+      }) (more (length es)))
+    where
+      more : (k : ℕ) → n + suc k ≡ n + 1 + k
+      more k = omega arith
+
+-- The rows from column i on, by a step of the code.
+module _ (cdm cds : List ℕ) (i : ℕ) (s : Timed Phase) (r : Stepped) (h : i < length cdm) (same : length cdm ≡ length cds)
+    (steps : Steps s (bitOf (getD cdm i 0)) (bitOf (getD cds i 0)) r) (p p′ : Place) (n : ℕ) (out : List ℕ)
+    (on : placeOf p′ ≡ onward s (bitOf (getD cdm i 0)) (placeOf p)) where
+  abbrev rows : ℕ → List Column
+  rows k = drop k (columns (rowOf cdm) (rowOf cds))
+
+  abbrev to : ℕ → List ℕ → Reached
+  to n′ out′ = reached (stateOf (r .next)) (placeOf p′) n′ out′ (rows (i + 1))
+
+  here : rows i ≡ col (bitOf (getD cdm i 0)) (bitOf (getD cds i 0)) ∷ rows (i + 1)
+  here = rw add-one (column-here i cdm cds h (omega arith))
+
+  state-is : stateOf (r .next) ≡ Reader.step s (bitOf (getD cdm i 0)) (bitOf (getD cds i 0)) .state
   unfolding after moved
-  entry-said = ap (λ (v : Moved). v .entry) (steps .meets k)
+  state-is = ap (λ (v : Moved). v .state) (steps .meets)
 
-  -- A column without an entry leaves the same list ..
-  pub turn-none : r .entry .kind ≡ 0 → left s k cdm cds ≡ left (stateOf (r .next)) (k + 1) cdm cds
-  turn-none e =
-      left-more ∙ ap (λ (o : Option Entry). note o (left (stateOf (r .next)) (k + 1) cdm cds)) (silent says (rw (← entry-said) e))
+  event-is : r .event ≡ eventOf (Reader.step s (bitOf (getD cdm i 0)) (bitOf (getD cds i 0)) .says)
+  unfolding after moved
+  event-is = ap (λ (v : Moved). v .event) (steps .meets)
 
-  -- .. and one with an entry gives its six bytes.
-  pub record Turn : Type 0 where
-    pub entry : Entry
-    pub listed : left s k cdm cds ≡ entry ∷ left (stateOf (r .next)) (k + 1) cdm cds
-    pub bytes : bytesOf entry ≡ sixOf k (r .entry)
+  pub turn-none : r .event .kind ≡ 0 → reached s (placeOf p) n out (rows i) ≡ to n out
+  turn-none e = rw (here, state-is, on) (silent s _ _ p n out (rows (i + 1)) _ refl (rw (← event-is) e))
 
-  pub turn-some : (r .entry .kind ≡ 0 → ⊥) → Turn
-  turn-some n =
-      let g = given k says (in-step k s (bitOf (getD cdm k 0)) (bitOf (getD cds k 0))) (rw (← entry-said) n) in
-      record {
-        entry = g .entry;
-        listed = left-more ∙ ap (λ (o : Option Entry). note o (left (stateOf (r .next)) (k + 1) cdm cds)) (g .says);
-        bytes = g .bytes ∙ ap (sixOf k) (sym entry-said);
-      }
+  pub turn-some : (r .event .kind ≡ 0 → ⊥) → reached s (placeOf p) n out (rows i) ≡ to (n + 1) (kept out n (bytesFor p (r .event)))
+  turn-some e = rw (here, state-is, on, event-is) (given s _ _ p n out (rows (i + 1)) _ refl (rw (← event-is) e))
+
+-- At the end nothing is left.
+pub none-left : (cdm cds : List ℕ) (i : ℕ) (s : Timed Phase) (p : line.Place) (n : ℕ) (out : List ℕ) → length cdm ≤ i
+    → reached s p n out (drop i (columns (rowOf cdm) (rowOf cds))) ≡ record { state = s; place = p; count = n; buffer = out }
+unfolding reached entries placeAfter Reader.after keptAll
+none-left cdm cds i s p n out h =
+    let short : length (columns (rowOf cdm) (rowOf cds)) ≤ i = omega (arith, length-columns cdm cds) in
+    rw (drop-of-length-le (columns (rowOf cdm) (rowOf cds)) short, add-zero)
+
+-- From power-on at column k: the list.
+columns-from : (k : ℕ) (cdm cds : List ℕ) → columns (rowOf (drop k cdm)) (rowOf (drop k cds)) ≡ drop k (columns (rowOf cdm) (rowOf cds))
+unfolding columns rowOf
+columns-from zero cdm cds = refl
+columns-from (suc k) [] cds = refl
+columns-from (suc k) (m ∷ cdm) [] = rw (nothing (drop k cdm))
+  where
+    nothing : (row : List ℕ) → columns (rowOf row) [] ≡ []
+    nothing [] = refl
+    nothing (m ∷ row) = refl
+columns-from (suc k) (m ∷ cdm) (x ∷ cds) = columns-from k cdm cds
+
+-- What a slice from k on holds.
+abbrev behind : ℕ → List ℕ → List ℕ
+behind k row = take (length row - k) (drop k row)
+
+behind-is : (k : ℕ) (row : List ℕ) → behind k row ≡ drop k row
+behind-is k row = take-all (length row - k) (drop k row) (omega (arith, length-drop k row))
+
+pub from-opening : (cdm cds : List ℕ) (k : ℕ) (s : Timed Phase) (p : Place) (out : List ℕ) (r : Reached) → s ≡ powerOn → p .column ≡ k
+    → r ≡ reached s (placeOf p) 0 out (columns (rowOf (behind k cdm)) (rowOf (behind k cds)))
+    → (r .count ≡ length (listOf k cdm cds)) × (r .buffer ≡ keptAll out 0 (listOf k cdm cds))
+unfolding reached listOf listFrom
+from-opening cdm cds k s p out r e h q =
+    let all = rw (e, h, behind-is k cdm, behind-is k cds, columns-from k cdm cds) at q in
+    (ap (λ (v : Reached). v .count) all ∙ zero-add _, ap (λ (v : Reached). v .buffer) all)

@@ -1,6 +1,5 @@
-pub mod Placed
 pub mod Left
-pub mod Filled
+pub mod Kept
 pub mod Bytes
 pub mod Ends
 mod Unique

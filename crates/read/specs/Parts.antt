@@ -1,37 +1,69 @@
 -- What read's helpers do, for their contracts: nothing here is needed to read what read promises.
 use mathlib.Core.Path.{_≡_}
 use mathlib.Core.Bool.{cond}
-use mathlib.Core.List.{List, [], _∷_, _++_}
-use Prim.Native.Nat.{ℕ, _*_, _/_, _%_, _≤_}
+use mathlib.Core.List.{List, [], _∷_}
+use Prim.Native.Nat.{ℕ, _+_, _*_, _/_, _≤_}
 use lib.Dec.{ltb}
-use lib.ListN.{length, take, drop}
+use lib.ListN.{length}
 use lib.Seq.{sets}
 use Rattle.line.specs.Limits.{columnLimit}
+use Rattle.line.specs.Rest.{Timed}
 use Rattle.line.specs.Entries as line
-use Rattle.line.specs.Entries.{listBytes}
-use Rattle.job.specs.Refusals.{Rule, when}
-use Rattle.job.specs.Rows.{wrongRows}
-use Rattle.reader.specs.declared.Entry.{Entry}
+use Rattle.line.specs.Layout.{Field, fields, current, entryBytes, fieldBytes, bytesOf}
+use Rattle.line.specs.Reader.{Phase, Column, entries, after, placeAfter}
+use Rattle.reader.specs.Code.{stateOf}
+use Rattle.reader.specs.declared.Event.{Event}
+use Rattle.read.specs.declared.Place.{Place}
+use Rattle.read.specs.declared.Reading.{Reading}
 
--- Refusals 5 to 8 alone.
-unfoldable pub rowsRefusals : (cdm cds : List ℕ) → (k : ℕ) → List Rule
-rowsRefusals cdm cds k = wrongRows cdm cds ++ when (ltb (length cdm) k) 8 ∷ []
-
--- What the rows are where none of these is given; the bytes' values do not matter to the scan.
+-- What the rows are where 5 to 8 are not given; the bytes' values do not matter to the scan.
 pub record Rows (cdm cds : List ℕ) (k : ℕ) : Type 0 where
   pub short : length cdm ≤ columnLimit
   pub equal : length cdm ≡ length cds
   pub within : k ≤ length cdm
 
--- The six bytes of an entry of column k.
-unfoldable pub sixOf : (k : ℕ) → Entry → List ℕ
-sixOf k e = e .kind ∷ k / 256 ∷ k % 256 ∷ e .id ∷ e .address ∷ e .value ∷ []
+-- A place of the code, as line has it.
+abbrev pub placeOf : Place → line.Place
+placeOf p = record { column = p .column }
 
--- The buffer after one entry more, n being there before it.
+-- What the code has in each field ..
+abbrev pub valueFor : Place → Event → Field → ℕ
+valueFor p e Field.kind = e .kind
+valueFor p e Field.column = p .column
+valueFor p e Field.id = e .id
+valueFor p e Field.address = e .address
+valueFor p e Field.value = e .value
+
+-- .. and the bytes of it.
+unfoldable pub bytesFor : Place → Event → List ℕ
+bytesFor p e = fieldBytes current fields (valueFor p e)
+
+-- So many entries have room.
+abbrev pub roomOf : (out : List ℕ) → ℕ
+roomOf out = length out / entryBytes current
+
+-- The buffer after one entry more, n being there before it ..
 unfoldable pub kept : (out : List ℕ) → (n : ℕ) → (bytes : List ℕ) → List ℕ
-kept out n bytes = cond (ltb n (length out / 6)) (sets out (6 * n) bytes) out
+kept out n bytes = cond (ltb n (roomOf out)) (sets out (entryBytes current * n) bytes) out
 
--- The buffer after a list: as many of its entries as there is room for.
-unfoldable pub filled : List line.Entry → (out : List ℕ) → List ℕ
-filled es out =
-    let bytes : List ℕ = listBytes (take (length out / 6) es) in bytes ++ drop (length bytes) out
+-- .. and after several: as many as there is room for.
+unfoldable pub keptAll : (out : List ℕ) → (n : ℕ) → List line.Entry → List ℕ
+keptAll out n [] = out
+keptAll out n (e ∷ es) = keptAll (kept out n (bytesOf current e)) (n + 1) es
+
+-- How far a reading has come: the reader's state, the place of the next column, how many entries there were, and the buffer.
+pub record Reached : Type 0 where
+  pub state : Timed Phase
+  pub place : line.Place
+  pub count : ℕ
+  pub buffer : List ℕ
+
+-- Over columns, from any state ..
+unfoldable pub reached : Timed Phase → line.Place → (n : ℕ) → (out : List ℕ) → List Column → Reached
+reached s p n out cs =
+    record { state = after s cs; place = placeAfter s p cs; count = n + length (entries s p cs); buffer = keptAll out n (entries s p cs) }
+
+-- .. and of the code.
+abbrev pub standing : Reading → (out : List ℕ) → Reached
+standing r out =
+    record { state = stateOf (r .reader); place = placeOf (r .place); count = r .count; buffer = out }

@@ -1,22 +1,36 @@
-// The job read: two recorded rows and an opening column in, the list of entries that they show out, six bytes each. It answers Made
-// with the number of entries, or Refused with 5 to 9 and the lent buffer as it was.
+// The job read: two recorded rows and an opening column in, the list of entries that they show out. It answers Made with the number of
+// entries, or Refused with 5 to 9 and the lent buffer as it was.
 ghost use mathlib.Core.Path.{_≡_};
-ghost use Prim.Native.Nat.{_+_, _/_, _≤_, _<_};
+ghost use Prim.Native.Nat.{_+_, _≤_};
 ghost use lib.Dec.{leb};
 ghost use lib.ListN.{length};
 ghost use lib.Seq.{sets};
 ghost use Rattle.line.specs.Limits.{columnLimit};
+ghost use Rattle.line.specs.Bits.{rowOf};
+ghost use Rattle.line.specs.Layout.{current, entryBytes};
+ghost use Rattle.line.specs.Reader.{columns};
+ghost use Rattle.line.specs.Entries.{onward};
 ghost use Rattle.job.specs.Refusals.{first, given};
-ghost use Rattle.reader.specs.Code.{small};
-ghost use Rattle.read.specs.Read.{listOf, Listed};
-ghost use Rattle.read.specs.Parts.{rowsRefusals, Rows, sixOf, kept, filled};
+ghost use Rattle.reader.specs.Code.{stateOf, small};
+ghost use Rattle.read.specs.Read.{rowsRefusals, listOf, Listed};
+ghost use Rattle.read.specs.Parts.{Rows, placeOf, bytesFor, roomOf, kept, keptAll, reached, standing};
 use job::Detail;
+use job::ENTRY_BYTES;
 use job::Outcome;
-use reader::Entry;
+use reader::Event;
 use reader::Reader;
 
-// Entries: "Six bytes".
-const ENTRY_BYTES: usize = 6;
+// Where in the row a column stands.
+pub struct Place {
+    pub column: usize,
+}
+
+// A reading under way: the reader, the place of the next column, and how many entries there were.
+pub struct Reading {
+    pub reader: Reader,
+    pub place: Place,
+    pub count: usize,
+}
 
 pub fn read(cdm: &[u8], cds: &[u8], opening: usize, out: &mut [u8]) -> Outcome
     ensures { λ r. ⌜ Listed (now (cdm .entry)) (now (cds .entry)) opening (now (out .entry)) r (now (out .exit)) ⌝ }
@@ -47,7 +61,7 @@ fn rows_refusal(cdm: &[u8], cds: &[u8], opening: usize) -> u8
 // Whether the list fits the lent buffer. No column gives two entries, so with room for as many as columns are left it is not counted.
 fn has_room(cdm: &[u8], cds: &[u8], opening: usize, out: &mut [u8]) -> bool
     requires { ⌜ Rows (now cdm) (now cds) opening ⌝ }
-    ensures { λ r. ⌜ (r ≡ leb (length (listOf opening (now (cdm .entry)) (now (cds .entry)))) (length (now (out .entry)) / 6)) × (now (out .exit) ≡ now (out .entry)) ⌝ }
+    ensures { λ r. ⌜ (r ≡ leb (length (listOf opening (now (cdm .entry)) (now (cds .entry)))) (roomOf (now (out .entry)))) × (now (out .exit) ≡ now (out .entry)) ⌝ }
 {
     let room = out.len() / ENTRY_BYTES;
     if room < cdm.len() - opening {
@@ -66,47 +80,91 @@ fn count(cdm: &[u8], cds: &[u8], opening: usize, out: &mut [u8]) -> usize
     scan(cdm, cds, opening, &mut out[..0])
 }
 
-// Puts the entries while there is room, and counts on past it. The one caller of step, which is inlined here.
+// From power-on at the opening column to the end of the rows; answers how many entries there are.
 fn scan(cdm: &[u8], cds: &[u8], opening: usize, out: &mut [u8]) -> usize
     requires { ⌜ Rows (now cdm) (now cds) opening ⌝ }
-    ensures { λ r. ⌜ (r ≡ length (listOf opening (now (cdm .entry)) (now (cds .entry)))) × (now (out .exit) ≡ filled (listOf opening (now (cdm .entry)) (now (cds .entry))) (now (out .entry))) ⌝ }
+    ensures { λ r. ⌜ (r ≡ length (listOf opening (now (cdm .entry)) (now (cds .entry)))) × (now (out .exit) ≡ keptAll (now (out .entry)) 0 (listOf opening (now (cdm .entry)) (now (cds .entry)))) ⌝ }
 {
-    let mut reader = Reader::new();
-    let mut n = 0;
-    let mut k = opening;
-    while k < cdm.len() {
-        let t = reader.step(cdm[k] == 1, cds[k] == 1);
-        let e = t.entry;
+    let place = Place { column: opening };
+    let start = Reading {
+        reader: Reader::new(),
+        place: place,
+        count: 0,
+    };
+    let end = scan_on(start, &cdm[opening..], &cds[opening..], out);
+    end.count
+}
+
+// A reading goes on over a part of the rows, from any state: it puts the entries while there is room, and counts on past it. The one
+// caller of step, which is inlined here.
+pub fn scan_on(start: Reading, cdm: &[u8], cds: &[u8], out: &mut [u8]) -> Reading
+    requires { ⌜ (length (now cdm) ≡ length (now cds)) × (start .place .column + length (now cdm) ≤ columnLimit) × (start .count ≤ start .place .column) ⌝ }
+    ensures { λ r. ⌜ standing r (now (out .exit)) ≡ reached (stateOf (start .reader)) (placeOf (start .place)) (start .count) (now (out .entry)) (columns (rowOf (now (cdm .entry))) (rowOf (now (cds .entry)))) ⌝ }
+{
+    let mut reader = start.reader;
+    let mut place = start.place;
+    let mut n = start.count;
+    let mut i = 0;
+    while i < cdm.len() {
+        let m = cdm[i] == 1;
+        let t = reader.step(m, cds[i] == 1);
+        let e = t.event;
         if e.kind != 0 {
-            n = keep(out, n, k, e);
+            n = keep(out, n, place, e);
         }
+        place = onward(reader, m, place);
         reader = t.next;
-        k += 1;
+        i += 1;
     }
-    n
+    Reading {
+        reader: reader,
+        place: place,
+        count: n,
+    }
+}
+
+// The place one column on.
+fn onward(reader: Reader, m: bool, place: Place) -> Place
+    requires { ⌜ place .column ≤ columnLimit ⌝ }
+    ensures { λ r. ⌜ placeOf r ≡ onward (stateOf reader) m (placeOf place) ⌝ }
+{
+    Place {
+        column: place.column + 1,
+    }
 }
 
 // The entry after n others, where there is room for it; answers how many there are now.
-fn keep(out: &mut [u8], n: usize, k: usize, e: Entry) -> usize
-    requires { ⌜ (n ≤ columnLimit) × (k ≤ columnLimit) × small e ⌝ }
-    ensures { λ r. ⌜ (r ≡ n + 1) × (now (out .exit) ≡ kept (now (out .entry)) n (sixOf k e)) ⌝ }
+fn keep(out: &mut [u8], n: usize, place: Place, e: Event) -> usize
+    requires { ⌜ (n ≤ columnLimit) × (place .column ≤ columnLimit) × small e ⌝ }
+    ensures { λ r. ⌜ (r ≡ n + 1) × (now (out .exit) ≡ kept (now (out .entry)) n (bytesFor place e)) ⌝ }
 {
     let next = n + 1;
     if n < out.len() / ENTRY_BYTES {
-        put(out, ENTRY_BYTES * n, k, e);
+        put(out, ENTRY_BYTES * n, place, e);
     }
     next
 }
 
-// Entries: "Six bytes: kind, column (two bytes, high first), id, address, value."
-fn put(out: &mut [u8], at: usize, k: usize, e: Entry)
-    requires { ⌜ (at + 6 ≤ length (now out)) × (k ≤ columnLimit) × small e ⌝ }
-    ensures { λ r. ⌜ now (out .exit) ≡ sets (now (out .entry)) at (sixOf k e) ⌝ }
+fn put(out: &mut [u8], at: usize, place: Place, e: Event)
+    requires { ⌜ (at + entryBytes current ≤ length (now out)) × (place .column ≤ columnLimit) × small e ⌝ }
+    ensures { λ r. ⌜ now (out .exit) ≡ sets (now (out .entry)) at (bytesFor place e) ⌝ }
 {
-    out[at] = e.kind as u8;
-    out[at + 1] = (k / 256) as u8;
-    out[at + 2] = (k % 256) as u8;
-    out[at + 3] = e.id as u8;
-    out[at + 4] = e.address as u8;
-    out[at + 5] = e.value as u8;
+    let bytes = entry_bytes(place, e);
+    print::put_bytes(out, at, &bytes);
+}
+
+// Entries: "Six bytes: kind, column (two bytes, high first), id, address, value."
+fn entry_bytes(place: Place, e: Event) -> [u8; ENTRY_BYTES]
+    requires { ⌜ (place .column ≤ columnLimit) × small e ⌝ }
+    ensures { λ r. ⌜ r ≡ bytesFor place e ⌝ }
+{
+    let k = place.column;
+    [
+        e.kind as u8,
+        (k / 256) as u8,
+        (k % 256) as u8,
+        e.id as u8,
+        e.address as u8,
+        e.value as u8,
+    ]
 }

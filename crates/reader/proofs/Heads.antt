@@ -15,32 +15,32 @@ use Rattle.line.specs.Reader as Reader
 use Rattle.reader.specs.Code.{lockBound, said, nothing, seenBy, seen}
 
 -- A lock column before IDL8's, and IDL8's.
-lock-on : (c p w : ℕ) (l : Locks) (m x : Bool) → p < idCount
-    → look c (locks (lockFirst + min p idCount) w l) m x ≡ go (locks (lockFirst + min (p + 1) idCount) (push w m) (Reader.seen p l x))
+lock-on : (p w : ℕ) (l : Locks) (m x : Bool) → p < idCount
+    → look (locks (lockFirst + min p idCount) w l) m x ≡ go (locks (lockFirst + min (p + 1) idCount) (push w m) (Reader.seen p l x))
 unfolding look
-lock-on c p w l m x h =
+lock-on p w l m x h =
     let a : lockFirst + min p idCount ≡ lockFirst + p = omega arith in
     let b : lockFirst + min (p + 1) idCount ≡ lockFirst + p + 1 = omega arith in
     let d : lockFirst + p - lockFirst ≡ p = omega arith in
     rw (a, b, lt-ltb (lockFirst + p) lockLast (omega arith), le-ltb (lockFirst + p) lockFirst (omega arith), d)
 
-lock-last : (c p w : ℕ) (l : Locks) (m x : Bool) → idCount ≤ p
-    → look c (locks (lockFirst + min p idCount) w l) m x ≡ locked c lockLast (push w m) (Reader.seen idCount l x)
+lock-last : (p w : ℕ) (l : Locks) (m x : Bool) → idCount ≤ p
+    → look (locks (lockFirst + min p idCount) w l) m x ≡ locked lockLast (push w m) (Reader.seen idCount l x)
 unfolding look
-lock-last c p w l m x h =
+lock-last p w l m x h =
     let a : lockFirst + min p idCount ≡ lockLast = omega arith in
     rw a
 
 -- lockodd where the pattern was odd before IDL8: the header's bits do not matter any more.
-pub mixed-odd : (c p w : ℕ) (m x : Bool) → idCount ≤ p
-    → seenBy deaf (said 2 0 0 0) ≡ seen (look c (locks (lockFirst + min p idCount) w mixed) m x)
+pub mixed-odd : (p w : ℕ) (m x : Bool) → idCount ≤ p
+    → seenBy deaf (said 2 0 0 0) ≡ seen (look (locks (lockFirst + min p idCount) w mixed) m x)
 unfolding Reader.seen locked
-mixed-odd c p w m x h = rw (lock-last c p w mixed m x h)
+mixed-odd p w m x h = rw (lock-last p w mixed m x h)
 
-module _ (c p w w′ : ℕ) (m x : Bool) (q : w′ ≡ push w m) where
+module _ (p w w′ : ℕ) (m x : Bool) (q : w′ ≡ push w m) where
   -- Ones: before IDL0; up to IDL8; at IDL8.
   abbrev in-ones : Look
-  in-ones = look c (locks (min p (lockLast - 1) + 1) w ones) m x
+  in-ones = look (locks (min p (lockLast - 1) + 1) w ones) m x
 
   abbrev ones-next : Phase
   ones-next = locks (min (p + 1) (lockLast - 1) + 1) w′ ones
@@ -60,7 +60,7 @@ module _ (c p w w′ : ℕ) (m x : Bool) (q : w′ ≡ push w m) where
     unfolding idl
     ones-at =
         let a : min p (lockLast - 1) + 1 ≡ lockFirst + min (p - (lockFirst - 1)) idCount = omega arith in
-        rw a (lock-on c (p - (lockFirst - 1)) w ones m x (omega arith))
+        rw a (lock-on (p - (lockFirst - 1)) w ones m x (omega arith))
 
     pub ones-on : x ≡ true → seenBy ones-next nothing ≡ seen in-ones
     unfolding Reader.seen idl
@@ -75,10 +75,10 @@ module _ (c p w w′ : ℕ) (m x : Bool) (q : w′ ≡ push w m) where
         let k : (p - (lockFirst - 1)) % lockBound ≡ p - (lockFirst - 1) = omega arith in rw (ones-at, q, e, k)
 
   module _ (past : lockLast - 1 ≤ p) where
-    ones-last : in-ones ≡ locked c lockLast (push w m) (Reader.seen idCount ones x)
+    ones-last : in-ones ≡ locked lockLast (push w m) (Reader.seen idCount ones x)
     ones-last =
         let a : min p (lockLast - 1) + 1 ≡ lockFirst + min p idCount = omega arith in
-        rw a (lock-last c p w ones m x (omega arith))
+        rw a (lock-last p w ones m x (omega arith))
 
     pub ones-nine : x ≡ true → seenBy (head (lockLast + 1) w′ (idCount + 1)) (said 1 0 0 (idCount + 1)) ≡ seen in-ones
     unfolding Reader.seen locked
@@ -90,7 +90,7 @@ module _ (c p w w′ : ℕ) (m x : Bool) (q : w′ ≡ push w m) where
 
   -- A lock was 0.
   abbrev at : Locks → Look
-  at l = look c (locks (lockFirst + min p idCount) w l) m x
+  at l = look (locks (lockFirst + min p idCount) w l) m x
 
   abbrev on : Locks → Phase
   on l = locks (lockFirst + min (p + 1) idCount) w′ l
@@ -98,33 +98,33 @@ module _ (c p w w′ : ℕ) (m x : Bool) (q : w′ ≡ push w m) where
   module _ (n : ℕ) where
     pub upto-mixed : p < idCount → x ≡ true → seenBy (on mixed) nothing ≡ seen (at (upto n))
     unfolding Reader.seen
-    upto-mixed h e = rw (lock-on c p w (upto n) m x h, q, e)
+    upto-mixed h e = rw (lock-on p w (upto n) m x h, q, e)
 
     pub upto-on : p < idCount → x ≡ false → seenBy (on (upto n)) nothing ≡ seen (at (upto n))
     unfolding Reader.seen
-    upto-on h e = rw (lock-on c p w (upto n) m x h, q, e)
+    upto-on h e = rw (lock-on p w (upto n) m x h, q, e)
 
     pub upto-odd : idCount ≤ p → x ≡ true → seenBy deaf (said 2 0 0 0) ≡ seen (at (upto n))
     unfolding Reader.seen locked
-    upto-odd h e = rw (lock-last c p w (upto n) m x h, e)
+    upto-odd h e = rw (lock-last p w (upto n) m x h, e)
 
     pub upto-lock : idCount ≤ p → x ≡ false → seenBy (head (lockLast + 1) w′ n) (said 1 0 0 n) ≡ seen (at (upto n))
     unfolding Reader.seen locked
-    upto-lock h e = rw (lock-last c p w (upto n) m x h, q, e)
+    upto-lock h e = rw (lock-last p w (upto n) m x h, q, e)
 
   pub mixed-on : p < idCount → seenBy (on mixed) nothing ≡ seen (at mixed)
   unfolding Reader.seen
-  mixed-on h = rw (lock-on c p w mixed m x h, q)
+  mixed-on h = rw (lock-on p w mixed m x h, q)
 
   module _ (l : ℕ) where
     abbrev in-head : Look
-    in-head = look c (head (p + 1) w l) m x
+    in-head = look (head (p + 1) w l) m x
 
     pub head-on : p < headerColumns - 1 → seenBy (head (p + 1 + 1) w′ l) nothing ≡ seen in-head
     unfolding look
     head-on h = rw (lt-ltb (p + 1) headerColumns (omega arith), q)
 
-    head-last : headerColumns - 1 ≤ p → in-head ≡ headed c (header w′) l
+    head-last : headerColumns - 1 ≤ p → in-head ≡ headed (header w′) l
     unfolding look
     head-last h = rw (le-ltb (p + 1) headerColumns (omega arith), q)
 

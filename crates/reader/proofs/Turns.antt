@@ -16,7 +16,7 @@ use Rattle.reader.specs.declared.Kind.{Kind}
 use Rattle.reader.specs.declared.Kind.the-variants.{Power, Rest, Deaf, Ones, Upto, Mixed, Head, AskR, AskW, ByteS, Reads, Writes, AskP}
 use Rattle.reader.specs.declared.Body.{Body}
 use Rattle.reader.specs.declared.Reader.{Reader}
-use Rattle.reader.specs.declared.Entry.{Entry}
+use Rattle.reader.specs.declared.Event.{Event}
 use Rattle.reader.specs.declared.Stepped.{Stepped}
 use Rattle.reader.proofs.Kind.{the-type}
 
@@ -25,28 +25,28 @@ module _ {kind : Kind} {zeros : ℕ} {b : Body} {m x : Bool} {kind′ : Kind} {b
   pub quiet : {zeros′ : ℕ} → Made kind′ zeros′ b′ nothing r → judgedAt begun (stateBy kind zeros b) m ≡ still (stateBy kind′ zeros′ b′)
       → Meets kind zeros b m x r
   unfolding after moved stateOf
-  quiet h law = record { meets = λ c. rw (h .made, law); bytes = rw (h .made) (h .bytes) }
+  quiet h law = record { meets = rw (h .made, law); bytes = rw (h .made) (h .bytes) }
 
   -- In a frame, from what the phase sees.
-  pub looked : {e : Entry} {p p′ : Phase} → Made kind′ zeros b′ e r
+  pub looked : {e : Event} {p p′ : Phase} → Made kind′ zeros b′ e r
       → stateBy kind zeros b ≡ frame zeros p → stateBy kind′ zeros b′ ≡ frame zeros p′
-      → ((c : ℕ) → seenBy p′ e ≡ seen (look c p m x)) → Meets kind zeros b m x r
+      → seenBy p′ e ≡ seen (look p m x) → Meets kind zeros b m x r
   unfolding after moved stateOf
   looked h from to law =
       record {
-        meets = λ c.
-            rw (h .made, from, to) (ap (λ (t : Turn Phase Entry). record { state = frame zeros (t .next); entry = t .says }) (law c));
+        meets =
+            rw (h .made, from, to) (ap (λ (t : Turn Phase Event). record { state = frame zeros (t .next); event = t .says }) law);
         bytes = rw (h .made) (h .bytes);
       }
 
 -- The fourteenth zero ends anything.
-ends-so : (s : Timed Phase) (c : ℕ) (m x : Bool) → record { state = rest; entry = ended s } ≡ moved (stepped c (endedAt s) m x)
+ends-so : (s : Timed Phase) (m x : Bool) → record { state = rest; event = ended s } ≡ moved (stepped (endedAt s) m x)
 unfolding moved
-ends-so (power z) c m x = refl
-ends-so rest c m x = refl
-ends-so (frame z p) c m x = refl
+ends-so (power z) m x = refl
+ends-so rest m x = refl
+ends-so (frame z p) m x = refl
 
--- The kinds of a frame, by their places: for each the fourteenth zero gives an entry.
+-- The kinds of a frame, by their places: for each the fourteenth zero gives an event.
 abbrev begun-kinds : List ℕ
 begun-kinds = 2 ∷ 3 ∷ 4 ∷ 5 ∷ 6 ∷ 7 ∷ 8 ∷ 9 ∷ 10 ∷ 11 ∷ 12 ∷ []
 
@@ -72,12 +72,12 @@ module _ (s : Reader) (m x : Bool) (r : Stepped) {z′ : ℕ} (e : z′ ≡ zero
 
   pub steps-on : z′ < restZeros → Meets (s .kind) z′ (s .body) m x r → Steps (stateOf s) m x r
   unfolding step stateOf
-  steps-on h t = record { meets = λ c. rw (judge-on begun (s .zeros) form m e h) (t .meets c); bytes = t .bytes }
+  steps-on h t = record { meets = rw (judge-on begun (s .zeros) form m e h) (t .meets); bytes = t .bytes }
 
   pub steps-end : restZeros ≤ z′ → Made Rest 0 (s .body) (ended form) r → Steps (stateOf s) m x r
   unfolding step stateOf after
   steps-end h t =
       record {
-        meets = λ c. rw (t .made, judge-out begun (s .zeros) form m e h) (ends-so form c m x);
+        meets = rw (t .made, judge-out begun (s .zeros) form m e h) (ends-so form m x);
         bytes = rw (t .made) (t .bytes);
       }

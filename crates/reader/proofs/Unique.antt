@@ -1,5 +1,5 @@
 -- Each promise of this crate has one answer to line's definitions: two results that meet it are the same state, and give the same
--- entry. What a field holds in a kind that does not use it is left open, and no job shows it. Assumes nothing.
+-- event. What a field holds in a kind that does not use it is left open, and no job shows it. Assumes nothing.
 use mathlib.Core.Path.{_≡_}
 use mathlib.Core.Bool.{Bool}
 use Rattle.line.specs.Rest.{Timed, powerOn}
@@ -13,4 +13,4 @@ new-unique : (a b : Reader) → stateOf a ≡ powerOn → stateOf b ≡ powerOn 
 new-unique a b p q = one-answer p q
 
 step-unique : {a b : Stepped} (s : Timed Phase) (m x : Bool) → Steps s m x a → Steps s m x b → after a ≡ after b
-step-unique s m x p q = one-answer (p .meets 0) (q .meets 0)
+step-unique s m x p q = one-answer (p .meets) (q .meets)

@@ -15,7 +15,7 @@ use Rattle.reader.specs.declared.Kind.{Kind}
 use Rattle.reader.specs.declared.Kind.the-variants.{Power, Rest, Deaf, Ones, Upto, Mixed, Head, AskR, AskW, ByteS, Reads, Writes, AskP}
 use Rattle.reader.specs.declared.Body.{Body}
 use Rattle.reader.specs.declared.Reader.{Reader}
-use Rattle.reader.specs.declared.Entry.{Entry}
+use Rattle.reader.specs.declared.Event.{Event}
 use Rattle.reader.specs.declared.Stepped.{Stepped}
 
 -- The ID as line's reader has it; the bound holds of every value that a step stores ..
@@ -66,65 +66,65 @@ stateBy kind zeros b = timed zeros (formBy kind b)
 unfoldable pub stateOf : Reader → Timed Phase
 stateOf r = stateBy (r .kind) (r .zeros) (r .body)
 
--- An entry without its column; kind 0 is none.
-abbrev pub said : (kind id address value : ℕ) → Entry
+-- An event by its fields; kind 0 is none.
+abbrev pub said : (kind id address value : ℕ) → Event
 said kind id address value = record { kind = kind; id = id; address = address; value = value }
 
--- No entry.
-abbrev pub nothing : Entry
+-- No event.
+abbrev pub nothing : Event
 nothing = said 0 0 0 0
 
--- The entry of a frame's end.
-abbrev pub ending : Entry
+-- The event of a frame's end.
+abbrev pub ending : Event
 ending = said (line.number line.Kind.end) 0 0 0
 
--- An entry of line's, or none, as the code has it.
-abbrev pub entryOf : Option line.Entry → Entry
-entryOf none = nothing
-entryOf (some e) = said (line.number (e .kind)) (e .id) (e .address) (e .value)
+-- An event of line's, or none, as the code has it.
+abbrev pub eventOf : Option line.Event → Event
+eventOf none = nothing
+eventOf (some e) = said (line.number (e .kind)) (e .id) (e .address) (e .value)
 
 -- Every field is a byte.
-abbrev pub small : Entry → Type 0
+abbrev pub small : Event → Type 0
 small e = (e .kind < 256) × (e .id < 256) × (e .address < 256) × (e .value < 256)
 
--- What a phase makes of a column, with the entry as the code has it: of its parts ..
-abbrev pub seenBy : Phase → Entry → Turn Phase Entry
+-- What a phase makes of a column, with the event as the code has it: of its parts ..
+abbrev pub seenBy : Phase → Event → Turn Phase Event
 seenBy p e = record { next = p; says = e }
 
 -- .. and of line's look.
-abbrev pub seen : Look → Turn Phase Entry
-seen l = seenBy (l .next) (entryOf (l .says))
+abbrev pub seen : Look → Turn Phase Event
+seen l = seenBy (l .next) (eventOf (l .says))
 
--- What a step makes of a state, with the entry as the code has it: ..
+-- What a step makes of a state, with the event as the code has it: ..
 pub record Moved : Type 0 where
   pub state : Timed Phase
-  pub entry : Entry
+  pub event : Event
 
 -- .. line's step ..
 unfoldable pub moved : Step → Moved
-moved s = record { state = s .state; entry = entryOf (s .says) }
+moved s = record { state = s .state; event = eventOf (s .says) }
 
 -- .. and the step that the code made.
 unfoldable pub after : Stepped → Moved
-after r = record { state = stateOf (r .next); entry = r .entry }
+after r = record { state = stateOf (r .next); event = r .event }
 
--- A step of its parts: every field of its entry is a byte.
-pub record Made (kind : Kind) (zeros : ℕ) (b : Body) (e : Entry) (r : Stepped) : Type 0 where
-  pub made : r ≡ record { next = record { kind = kind; zeros = zeros; body = b }; entry = e }
+-- A step of its parts: every field of its event is a byte.
+pub record Made (kind : Kind) (zeros : ℕ) (b : Body) (e : Event) (r : Stepped) : Type 0 where
+  pub made : r ≡ record { next = record { kind = kind; zeros = zeros; body = b }; event = e }
   pub bytes : small e
 
--- What a kind's function promises, of a column that is not the fourteenth zero, whichever column of the row it is ..
+-- What a kind's function promises, of a column that is not the fourteenth zero ..
 pub record Meets (kind : Kind) (zeros : ℕ) (b : Body) (m x : Bool) (r : Stepped) : Type 0 where
-  pub meets : (c : ℕ) → after r ≡ moved (stepped c (judgedAt begun (stateBy kind zeros b) m) m x)
-  pub bytes : small (r .entry)
+  pub meets : after r ≡ moved (stepped (judgedAt begun (stateBy kind zeros b) m) m x)
+  pub bytes : small (r .event)
 
--- .. and the entry that the fourteenth gives.
-abbrev pub ended : Timed Phase → Entry
+-- .. and the event that the fourteenth gives.
+abbrev pub ended : Timed Phase → Event
 ended (power z) = nothing
 ended rest = nothing
 ended (frame z p) = ending
 
 -- What step promises: line's step.
 pub record Steps (s : Timed Phase) (m x : Bool) (r : Stepped) : Type 0 where
-  pub meets : (c : ℕ) → after r ≡ moved (step c s m x)
-  pub bytes : small (r .entry)
+  pub meets : after r ≡ moved (step s m x)
+  pub bytes : small (r .event)

@@ -7,7 +7,6 @@ ghost use Rattle.reader.specs.Code.{idOf, lockOf, Meets};
 use crate::Body;
 use crate::Kind;
 use crate::Stepped;
-use crate::kinds;
 use crate::made::LOCK_BOUND;
 use crate::made::gives;
 use crate::made::go;

@@ -6,7 +6,6 @@ ghost use Rattle.reader.specs.Code.{Meets};
 use crate::Body;
 use crate::Kind;
 use crate::Stepped;
-use crate::kinds;
 use crate::made::gives;
 use crate::made::go;
 use machine::BYTES;

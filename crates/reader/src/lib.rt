@@ -1,9 +1,8 @@
-// The reader's step (01, Entries): one column in, the next state and perhaps an entry out. Kind and Body say where in a frame the
+// The reader's step (01, Entries): one column in, the next state and perhaps an event out. Kind and Body say where in a frame the
 // reader is; what a field holds in a kind that does not use it never matters.
 mod access;
 mod data;
 mod header;
-mod kinds;
 mod made;
 
 ghost use mathlib.Core.Path.{_≡_};
@@ -65,8 +64,8 @@ pub struct Reader {
     pub body: Body,
 }
 
-// An entry without its column; kind 0 is none.
-pub struct Entry {
+// What a column shows; kind 0 is nothing.
+pub struct Event {
     pub kind: u64,
     pub id: u64,
     pub address: u64,
@@ -75,7 +74,7 @@ pub struct Entry {
 
 pub struct Stepped {
     pub next: Reader,
-    pub entry: Entry,
+    pub event: Event,
 }
 
 impl Reader {

@@ -1,14 +1,13 @@
-// What every column's function is made of: the next state with an entry or none, and bits as numbers.
+// What every column's function is made of: the next state with an event or none, and bits as numbers.
 ghost use mathlib.Core.Path.{_≡_};
 ghost use Prim.Native.Nat.{_<_};
 ghost use Rattle.line.specs.Bits.{num};
 ghost use Rattle.reader.specs.Code.{said, nothing, small, Made};
 use crate::Body;
-use crate::Entry;
+use crate::Event;
 use crate::Kind;
 use crate::Reader;
 use crate::Stepped;
-use crate::kinds;
 
 // A lock value is 9 at most; any bound above it would do.
 pub const LOCK_BOUND: u64 = 16;
@@ -20,7 +19,7 @@ pub fn go(kind: Kind, zeros: u64, body: Body) -> Stepped
     gives(kind, zeros, body, kinds::NONE, 0, 0, 0)
 }
 
-// A next state, and an entry.
+// A next state, and an event.
 pub fn gives(
     kind: Kind,
     zeros: u64,
@@ -38,7 +37,7 @@ pub fn gives(
         zeros: zeros,
         body: body,
     };
-    let entry = Entry {
+    let event = Event {
         kind: number,
         id: id,
         address: address,
@@ -46,11 +45,11 @@ pub fn gives(
     };
     Stepped {
         next: next,
-        entry: entry,
+        event: event,
     }
 }
 
-// At rest, and an entry of no field or none.
+// At rest, and an event of no field or none.
 pub fn rests(body: Body, number: u64) -> Stepped
     requires { ⌜ number < 256 ⌝ }
     ensures { λ r. ⌜ Made Kind.Rest 0 body (said number 0 0 0) r ⌝ }

@@ -3,11 +3,11 @@
 //
 //   column  0 .. 13  14  15 .. 23      24 .. 29   30  31  32  33 .. 40  41 .. 44  45
 //           zeros    S   header, IDL   header     R   W   S   data      check     P
-ghost use mathlib.Core.Path.{_≡_};
-ghost use Prim.Native.Nat.{_+_, _≤_, _<_};
-ghost use lib.ListN.{length};
+ghost use Prim.Native.Nat.{_+_, _<_};
+use job::ENTRY_BYTES;
 use job::Outcome;
 use libc::STDOUT_FILENO;
+use lists::Fields;
 
 // No column is flipped.
 const NONE: usize = 64;
@@ -210,31 +210,29 @@ fn flip(row: &mut [u8], column: usize) {
     }
 }
 
-// So many entries of six bytes.
+// So many entries.
 fn listed(list: &[u8], entries: usize) {
     let mut left = entries;
     let mut at = 0;
     while 0 < left {
-        if 6 <= list.len() - at {
-            entry(list, at);
-            at += 6;
+        if ENTRY_BYTES <= list.len() - at {
+            entry(lists::entry_at(list, at));
+            at += ENTRY_BYTES;
         }
         left -= 1;
     }
 }
 
-fn entry(list: &[u8], at: usize)
-    requires { ⌜ at + 6 ≤ length (now list) ⌝ }
-{
-    number(wide(list[at]));
+fn entry(e: Fields) {
+    number(e.kind as u64);
     io::write_all(STDOUT_FILENO, b" ");
-    number(256 * wide(list[at + 1]) + wide(list[at + 2]));
+    number(e.column as u64);
     io::write_all(STDOUT_FILENO, b" ");
-    number(wide(list[at + 3]));
+    number(e.id as u64);
     io::write_all(STDOUT_FILENO, b" ");
-    number(wide(list[at + 4]));
+    number(e.address as u64);
     io::write_all(STDOUT_FILENO, b" ");
-    number(wide(list[at + 5]));
+    number(e.value as u64);
     io::write_all(STDOUT_FILENO, b"\n");
 }
 
@@ -246,10 +244,4 @@ fn refused(number: u8) {
 
 fn number(n: u64) {
     io::print_decimal(STDOUT_FILENO, n);
-}
-
-fn wide(byte: u8) -> u64
-    ensures { λ r. ⌜ (r ≡ byte) × (r < 256) ⌝ }
-{
-    byte as u64
 }

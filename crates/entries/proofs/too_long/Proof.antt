@@ -1,51 +1,57 @@
 -- `entries::too_long` meets its contract. The loop's invariant: the lines that are left need more than the room that is left exactly where
--- the text needs more than all of it. Assumes nothing.
+-- all of them need more than all of it. Assumes nothing.
 use mathlib.Core.Bool.{true}
 use mathlib.Core.Path.{_≡_, sym, ap, _∙_}
-use Prim.Native.Nat.{_-_, _≤_}
+use Prim.Native.Nat.{_+_, _-_, _≤_}
 use native.Mathlib.Omega.{arith}
 use borrow.Author.Needs.{needs}
 use borrow.Author.Tests.{lt-ltb, le-ltb}
 use lib.Dec.{ltb}
 use lib.ListN.{length, drop}
-use Rattle.entries.proofs.Lists.{entry-kind, list-behind, lines-length, line-none, text-length, less-room}
-use Rattle.line.specs.Text.{isList, entryLines, listText}
+use Rattle.line.specs.Layout.{current, isList}
+use Rattle.lists.proofs.Walk.{kind-here, list-behind}
+use Rattle.entries.proofs.Lists.{linesFrom, lines-length, line-none, less-room}
 use Rattle.entries.proofs.too_long.Statement.{statement}
 use Rattle.entries.proofs.too_long.Tie as tie
 
 abbrev Inv-loop : tie.InvT-loop
-Inv-loop list room left₀ i₀ left i =
-    (i ≤ length list) × (isList (drop i list) ≡ true)
-    × (ltb left (length (entryLines (drop i list))) ≡ ltb room (length (listText list)))
+Inv-loop list before room left₀ i₀ left i =
+    (i ≤ length list) × (isList current (drop i list) ≡ true)
+    × (ltb left (length (linesFrom list i)) ≡ ltb room (before + length (linesFrom list 0)))
 
 abbrev μ-loop : tie.MeasureT-loop
-μ-loop list room left₀ i₀ left i = length list - i
+μ-loop list before room left₀ i₀ left i = length list - i
 
 returns : tie.Need-returns Inv-loop μ-loop
 returns c =
     let a = c .before .before .args in
-    sym (lt-ltb (a .room) _ (omega (arith, text-length (a .list .now))))
+    sym (lt-ltb (a .room) _ (omega arith))
 
 loop-holds : tie.Need-loop-holds Inv-loop μ-loop
 loop-holds c =
     let start = c .before .before in
     let a = start .args in
-    (search needs, start .pre, less-room (a .room) 30 _ (c .if1 .left) ∙ ap (ltb (a .room)) (sym (text-length (a .list .now))))
+    (search needs, start .pre, less-room (a .room) (a .before) _ (c .if1 .left))
 
 sub-loop : tie.Need-sub-loop Inv-loop μ-loop
 sub-loop c = search needs
 
+entry-at-requires : tie.Need-entry-at-requires Inv-loop μ-loop
+entry-at-requires c κs = search needs
+
 line-length-requires : tie.Need-line-length-requires Inv-loop μ-loop
 line-length-requires c κs =
-    let l = c .before .loop in
-    (search needs, entry-kind _ (l .i) (c .loop-test .taken) (l .inv .1))
+    let turn = c .before in
+    let l = turn .before .loop in
+    rw (c .entry-at .ensures) (kind-here _ (l .i) (turn .loop-test .taken) (l .inv .1))
 
 returns-2 : tie.Need-returns-2 Inv-loop μ-loop
 returns-2 c =
-    let turn = c .before .before in
+    let turn = c .before .before .before in
     let l = turn .before .loop in
     let long = lines-length _ (l .i) (turn .loop-test .taken) (l .inv .1) in
-    sym (lt-ltb (l .left) _ (omega (arith, c .before .line-length .ensures, c .if2 .taken))) ∙ l .inv .2
+    let line = rw (c .before .before .entry-at .ensures) at (c .before .line-length .ensures) in
+    sym (lt-ltb (l .left) _ (omega arith)) ∙ l .inv .2
 
 add-i : tie.Need-add-i Inv-loop μ-loop
 add-i c = search needs
@@ -55,14 +61,13 @@ loop-less c = search needs
 
 loop-again : tie.Need-loop-again Inv-loop μ-loop
 loop-again c =
-    let turn = c .before .before in
+    let turn = c .before .before .before in
     let l = turn .before .loop in
-    let long = lines-length _ (l .i) (turn .loop-test .taken) (l .inv .1) in (
+    let long = lines-length _ (l .i) (turn .loop-test .taken) (l .inv .1) in
+    let line = rw (c .before .before .entry-at .ensures) at (c .before .line-length .ensures) in (
       search needs,
       list-behind _ (l .i) (turn .loop-test .taken) (l .inv .1),
-      less-room (l .left) _ _ (c .if2 .left)
-          ∙ ap (ltb (l .left)) (rw (c .before .line-length .ensures) (sym long))
-          ∙ l .inv .2,
+      less-room (l .left) _ _ (c .if2 .left) ∙ ap (ltb (l .left)) (rw line (sym long)) ∙ l .inv .2,
     )
 
 returns-3 : tie.Need-returns-3 Inv-loop μ-loop
@@ -79,6 +84,7 @@ too-long-spec =
     returns
     loop-holds
     sub-loop
+    entry-at-requires
     line-length-requires
     returns-2
     add-i

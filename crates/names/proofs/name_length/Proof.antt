@@ -2,8 +2,9 @@
 use native.Mathlib.Omega.{arith}
 use borrow.Author.Needs.{needs}
 use Rattle.line.specs.Entries.{numbered}
+use Rattle.kinds.proofs.Numbers.{kind-low}
 use Rattle.names.proofs.Numbers.{name-short, length-at}
-use Rattle.names.specs.Names.{kindLine, nameOf}
+use Rattle.names.specs.Names.{nameOf}
 use Rattle.names.proofs.name_length.Statement.{statement}
 use Rattle.names.proofs.name_length.Tie as tie
 
@@ -11,28 +12,31 @@ slice-aggregate-lengths : tie.Need-slice-aggregate-lengths
 slice-aggregate-lengths c = search needs
 
 shared-slice-read-result : tie.Need-shared-slice-read-result
-shared-slice-read-result c = search needs
+shared-slice-read-result c =
+    let start = c .before .before in
+    let low = kind-low (start .args .kind) (start .pre) in
+    search needs
 
 sub-result : tie.Need-sub-result
-unfolding nameOf kindLine numbered
+unfolding nameOf numbered
 sub-result c =
-    let k = c .before .before .args .kind in
-    let is = length-at k (search needs) in
+    let start = c .before .before in
+    let is = length-at (start .args .kind) (start .pre) in
     omega (arith, is)
 
 cast-result : tie.Need-cast-result
-unfolding nameOf kindLine numbered
+unfolding nameOf numbered
 cast-result c =
-    let k = c .before .before .args .kind in
-    let is = length-at k (search needs) in
-    omega (arith, is, name-short k (search needs))
+    let start = c .before .before in
+    let is = length-at (start .args .kind) (start .pre) in
+    omega (arith, is, name-short (start .args .kind))
 
 returns : tie.Need-returns
-unfolding nameOf kindLine numbered
+unfolding nameOf numbered
 returns c =
-    let k = c .before .before .args .kind in
-    let is = length-at k (search needs) in
-    (omega (arith, is), omega (arith, is, name-short k (search needs)))
+    let start = c .before .before in
+    let is = length-at (start .args .kind) (start .pre) in
+    (omega (arith, is), omega (arith, is, name-short (start .args .kind)))
 
 pub name-length-spec : {M : Type 1} → statement M
 name-length-spec =

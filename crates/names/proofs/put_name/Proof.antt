@@ -3,8 +3,10 @@ use mathlib.Core.Path.{ap}
 use Prim.Native.Nat.{ℕ, _+_, _*_}
 use borrow.Author.Needs.{needs}
 use Rattle.line.specs.Entries.{numbered}
+use Rattle.line.specs.Pieces.{joined}
+use Rattle.kinds.proofs.Numbers.{kind-low}
 use Rattle.names.proofs.Numbers.{name-part}
-use Rattle.names.specs.Names.{kindLine, nameOf}
+use Rattle.names.specs.Names.{nameOf}
 use Rattle.print.proofs.Runs.{renamed}
 use Rattle.names.proofs.put_name.Statement.{statement}
 use Rattle.names.proofs.put_name.Tie as tie
@@ -28,7 +30,10 @@ part-put-bytes-start : tie.Need-part-put-bytes-start
 part-put-bytes-start c = search needs
 
 part-put-bytes-end : tie.Need-part-put-bytes-end
-part-put-bytes-end c = search needs
+part-put-bytes-end c =
+    let start = c .before .before .before .before in
+    let low = kind-low (start .args .kind) (start .pre .0) in
+    search needs
 
 put-bytes-requires : tie.Need-put-bytes-requires
 put-bytes-requires c κs = search needs
@@ -37,12 +42,12 @@ same-length : tie.Need-same-length
 same-length c = search needs
 
 returns : tie.Need-returns
-unfolding nameOf kindLine numbered
+unfolding nameOf numbered joined
 returns c =
     let put = c .before .before in
     let long = put .before .before .before .before in
     let k = long .before .before .args .kind in
-    renamed (name-part k _ (search needs) (ap (λ (n : ℕ). 8 * k + n) (long .name-length .ensures .0))) (put .put-bytes .ensures)
+    renamed (name-part k _ (long .before .before .pre .0) (ap (λ (n : ℕ). 8 * k + n) (long .name-length .ensures .0))) (put .put-bytes .ensures)
 
 pub put-name-spec : {M : Type 1} → statement M
 put-name-spec =

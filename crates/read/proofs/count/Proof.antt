@@ -3,7 +3,7 @@ use mathlib.Core.List.{List, _++_}
 use mathlib.Core.Path.{ap, _∙_}
 use Prim.Native.Nat.{ℕ}
 use borrow.Author.Needs.{needs}
-use Rattle.read.proofs.Filled.{filled-empty}
+use Rattle.read.proofs.Kept.{kept-empty}
 use Rattle.read.proofs.count.Statement.{statement}
 use Rattle.read.proofs.count.Tie as tie
 
@@ -22,7 +22,7 @@ same-length c = search needs
 returns : tie.Need-returns
 returns c =
     let lent = c .before .before .before .before .before .before .before .args .out .now in
-    (c .before .before .scan .ensures .0, ap (λ (l : List ℕ). l ++ lent) (c .before .before .scan .ensures .1 ∙ filled-empty _))
+    (c .before .before .scan .ensures .0, ap (λ (l : List ℕ). l ++ lent) (c .before .before .scan .ensures .1 ∙ kept-empty 0 _))
 
 pub count-spec : {M : Type 1} → statement M
 count-spec =

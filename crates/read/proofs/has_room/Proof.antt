@@ -1,11 +1,11 @@
 -- `read::has_room` meets its contract: no list has more entries than columns are left. Assumes nothing.
 use mathlib.Core.Path.{refl, sym}
-use Prim.Native.Nat.{_/_}
 use native.Mathlib.Omega.{arith}
 use borrow.Author.Needs.{needs}
 use borrow.Author.Tests.{le-leb}
 use lib.ListN.{length}
-use Rattle.read.proofs.Left.{length-list}
+use Rattle.read.proofs.Left.{length-listed}
+use Rattle.read.specs.Parts.{roomOf}
 use Rattle.read.specs.Read.{listOf}
 use Rattle.read.proofs.has_room.Statement.{statement}
 use Rattle.read.proofs.has_room.Tie as tie
@@ -26,7 +26,7 @@ returns-2 : tie.Need-returns-2
 returns-2 c =
     let a = c .before .before .before .before .args in
     let list = listOf (a .opening) (a .cdm .now) (a .cds .now) in
-    (sym (le-leb (length list) (length (a .out .now) / 6) (omega (arith, length-list (a .opening) (a .cdm .now) (a .cds .now)))), refl)
+    (sym (le-leb (length list) (roomOf (a .out .now)) (omega (arith, length-listed (a .opening) (a .cdm .now) (a .cds .now)))), refl)
 
 pub has-room-spec : {M : Type 1} → statement M
 has-room-spec = tie.close (tie.spec sub-if1 count-requires same-length returns returns-2)

@@ -1,93 +1,29 @@
--- `read::put` meets its contract: six stores side by side. Assumes nothing.
-use Prim.Native.Nat.{_/_, _%_}
-use native.Mathlib.Omega.{arith}
+-- `read::put` meets its contract: the entry's bytes laid at a place. Assumes nothing.
 use borrow.Author.Needs.{needs}
-use lib.ListN.{length-set}
-use Rattle.read.proofs.Filled.{stored-six}
-use Rattle.read.specs.Parts.{sixOf}
 use Rattle.read.proofs.put.Statement.{statement}
 use Rattle.read.proofs.put.Tie as tie
 
-cast-out : tie.Need-cast-out
-cast-out c = search needs
+entry-bytes-requires : tie.Need-entry-bytes-requires
+entry-bytes-requires c κs = search needs
 
-slice-write-out : tie.Need-slice-write-out
-slice-write-out c = search needs
+slice-aggregate-put-bytes : tie.Need-slice-aggregate-put-bytes
+slice-aggregate-put-bytes c = search needs
 
-cast-out-2 : tie.Need-cast-out-2
-cast-out-2 c = search needs
-
-add-out : tie.Need-add-out
-add-out c = search needs
-
-slice-write-out-2 : tie.Need-slice-write-out-2
-slice-write-out-2 c = simp length-set (omega arith)
-
-cast-out-3 : tie.Need-cast-out-3
-cast-out-3 c = search needs
-
-add-out-2 : tie.Need-add-out-2
-add-out-2 c = search needs
-
-slice-write-out-3 : tie.Need-slice-write-out-3
-slice-write-out-3 c = simp length-set (omega arith)
-
-cast-out-4 : tie.Need-cast-out-4
-cast-out-4 c = search needs
-
-add-out-3 : tie.Need-add-out-3
-add-out-3 c = search needs
-
-slice-write-out-4 : tie.Need-slice-write-out-4
-slice-write-out-4 c = simp length-set (omega arith)
-
-cast-out-5 : tie.Need-cast-out-5
-cast-out-5 c = search needs
-
-add-out-4 : tie.Need-add-out-4
-add-out-4 c = search needs
-
-slice-write-out-5 : tie.Need-slice-write-out-5
-slice-write-out-5 c = simp length-set (omega arith)
-
-cast-out-6 : tie.Need-cast-out-6
-cast-out-6 c = search needs
-
-add-out-5 : tie.Need-add-out-5
-add-out-5 c = search needs
-
-slice-write-out-6 : tie.Need-slice-write-out-6
-slice-write-out-6 c = simp length-set (omega arith)
+put-bytes-requires : tie.Need-put-bytes-requires
+put-bytes-requires c κs = search needs
 
 same-length : tie.Need-same-length
 same-length c = search needs
 
 returns : tie.Need-returns
-unfolding sixOf
-returns c =
-    let a = c .before .before .before .before .args in
-    stored-six (a .out .now) (a .at) (a .e .kind) (a .k / 256) (a .k % 256) (a .e .id) (a .e .address) (a .e .value)
+returns c = rw (c .before .before .before .before .before .entry-bytes .ensures) at (c .before .before .put-bytes .ensures .laid)
 
 pub put-spec : {M : Type 1} → statement M
 put-spec =
     tie.close
     (tie.spec
-    cast-out
-    slice-write-out
-    cast-out-2
-    add-out
-    slice-write-out-2
-    cast-out-3
-    add-out-2
-    slice-write-out-3
-    cast-out-4
-    add-out-3
-    slice-write-out-4
-    cast-out-5
-    add-out-4
-    slice-write-out-5
-    cast-out-6
-    add-out-5
-    slice-write-out-6
+    entry-bytes-requires
+    slice-aggregate-put-bytes
+    put-bytes-requires
     same-length
     returns)

@@ -92,7 +92,7 @@ returns-2 c = rw (c .before .enum-told2 .given .1) (c .rest .ensures)
 
 returns-3 : tie.Need-returns-3
 unfolding look
-returns-3 c = rw (c .before .enum-told3 .given .1) (looked (c .go2 .ensures) refl refl (λ k. refl))
+returns-3 c = rw (c .before .enum-told3 .given .1) (looked (c .go2 .ensures) refl refl (refl))
 
 returns-4 : tie.Need-returns-4
 returns-4 c = rw (c .before .enum-told4 .given .1) (c .ones .ensures)

@@ -19,6 +19,9 @@ loop-holds c = search needs
 sub-if1 : tie.Need-sub-if1 Inv-loop μ-loop
 sub-if1 c = search needs
 
+entry-at-requires : tie.Need-entry-at-requires Inv-loop μ-loop
+entry-at-requires c κs = search needs
+
 entry-requires : tie.Need-entry-requires Inv-loop μ-loop
 entry-requires c κs = search needs
 
@@ -45,6 +48,7 @@ listed-spec =
     μ-loop
     loop-holds
     sub-if1
+    entry-at-requires
     entry-requires
     add-at
     sub-left

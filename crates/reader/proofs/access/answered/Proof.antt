@@ -22,13 +22,13 @@ gives-requires-2 : tie.Need-gives-requires-2
 gives-requires-2 c κs = search needs
 
 returns : tie.Need-returns
-returns c = looked (c .go .ensures) refl refl (λ k. search (w-accepted, needs))
+returns c = looked (c .go .ensures) refl refl (search (w-accepted, needs))
 
 returns-2 : tie.Need-returns-2
-returns-2 c = looked (c .gives .ensures) refl refl (λ k. search (w-refused, needs))
+returns-2 c = looked (c .gives .ensures) refl refl (search (w-refused, needs))
 
 returns-3 : tie.Need-returns-3
-returns-3 c = looked (c .gives2 .ensures) refl refl (λ k. search (w-odd, needs))
+returns-3 c = looked (c .gives2 .ensures) refl refl (search (w-odd, needs))
 
 pub answered-spec : {M : Type 1} → statement M
 answered-spec =

@@ -16,7 +16,7 @@ go-requires : tie.Need-go-requires
 go-requires c κs = search needs
 
 returns : tie.Need-returns
-returns c = looked (c .go .ensures) refl refl (λ k. search (r-asked, needs))
+returns c = looked (c .go .ensures) refl refl (search (r-asked, needs))
 
 pub ask-r-spec : {M : Type 1} → statement M
 ask-r-spec = tie.close (tie.spec number-requires number-requires-2 go-requires returns)

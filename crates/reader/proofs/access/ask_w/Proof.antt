@@ -16,7 +16,7 @@ unlocked-requires : tie.Need-unlocked-requires
 unlocked-requires c κs = search needs
 
 returns : tie.Need-returns
-returns c = looked (c .gives .ensures) refl refl (λ k. search (w-pair, needs))
+returns c = looked (c .gives .ensures) refl refl (search (w-pair, needs))
 
 returns-2 : tie.Need-returns-2
 returns-2 c = c .answered .ensures

@@ -16,10 +16,10 @@ gives-requires-2 : tie.Need-gives-requires-2
 gives-requires-2 c κs = search needs
 
 returns : tie.Need-returns
-returns c = looked (c .gives .ensures) refl refl (λ k. search (w-absent, needs))
+returns c = looked (c .gives .ensures) refl refl (search (w-absent, needs))
 
 returns-2 : tie.Need-returns-2
-returns-2 c = looked (c .gives2 .ensures) refl refl (λ k. search (w-unasked, needs))
+returns-2 c = looked (c .gives2 .ensures) refl refl (search (w-unasked, needs))
 
 pub unlocked-spec : {M : Type 1} → statement M
 unlocked-spec =

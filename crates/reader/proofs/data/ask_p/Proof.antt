@@ -25,16 +25,16 @@ gives-requires-3 : tie.Need-gives-requires-3
 gives-requires-3 c κs = search needs
 
 returns : tie.Need-returns
-returns c = looked (c .gives .ensures) refl refl (λ k. search (p-closed, needs))
+returns c = looked (c .gives .ensures) refl refl (search (p-closed, needs))
 
 returns-2 : tie.Need-returns-2
-returns-2 c = looked (c .go .ensures) refl refl (λ k. search (p-more, needs))
+returns-2 c = looked (c .go .ensures) refl refl (search (p-more, needs))
 
 returns-3 : tie.Need-returns-3
-returns-3 c = looked (c .gives2 .ensures) refl refl (λ k. search (p-last-byte, needs))
+returns-3 c = looked (c .gives2 .ensures) refl refl (search (p-last-byte, needs))
 
 returns-4 : tie.Need-returns-4
-returns-4 c = looked (c .gives3 .ensures) refl refl (λ k. search (p-last-address, needs))
+returns-4 c = looked (c .gives3 .ensures) refl refl (search (p-last-address, needs))
 
 pub ask-p-spec : {M : Type 1} → statement M
 ask-p-spec =

@@ -25,13 +25,13 @@ go-requires : tie.Need-go-requires
 go-requires c κs = search needs
 
 returns : tie.Need-returns
-returns c = looked (c .gives .ensures) refl refl (λ k. search (read-good, needs))
+returns c = looked (c .gives .ensures) refl refl (search (read-good, needs))
 
 returns-2 : tie.Need-returns-2
-returns-2 c = looked (c .gives2 .ensures) refl refl (λ k. search (read-bad, needs))
+returns-2 c = looked (c .gives2 .ensures) refl refl (search (read-bad, needs))
 
 returns-3 : tie.Need-returns-3
-returns-3 c = looked (c .go .ensures) refl refl (λ k. search (read-on, needs))
+returns-3 c = looked (c .go .ensures) refl refl (search (read-on, needs))
 
 pub reads-spec : {M : Type 1} → statement M
 reads-spec =

@@ -28,16 +28,16 @@ gives-requires-2 : tie.Need-gives-requires-2
 gives-requires-2 c κs = search needs
 
 returns : tie.Need-returns
-returns c = looked (c .go .ensures) refl refl (λ k. search (head-on, needs))
+returns c = looked (c .go .ensures) refl refl (search (head-on, needs))
 
 returns-2 : tie.Need-returns-2
-returns-2 c = looked (c .go2 .ensures) refl refl (λ k. search (head-access, needs))
+returns-2 c = looked (c .go2 .ensures) refl refl (search (head-access, needs))
 
 returns-3 : tie.Need-returns-3
-returns-3 c = looked (c .gives .ensures) refl refl (λ k. search (head-command, needs))
+returns-3 c = looked (c .gives .ensures) refl refl (search (head-command, needs))
 
 returns-4 : tie.Need-returns-4
-returns-4 c = looked (c .gives2 .ensures) refl refl (λ k. search (head-bad, needs))
+returns-4 c = looked (c .gives2 .ensures) refl refl (search (head-bad, needs))
 
 pub head-spec : {M : Type 1} → statement M
 head-spec =

@@ -19,10 +19,10 @@ gives-requires : tie.Need-gives-requires
 gives-requires c κs = search needs
 
 returns : tie.Need-returns
-returns c = looked (c .go .ensures) refl refl (λ k. search (mixed-on, needs))
+returns c = looked (c .go .ensures) refl refl (search (mixed-on, needs))
 
 returns-2 : tie.Need-returns-2
-returns-2 c = looked (c .gives .ensures) refl refl (λ k. search (mixed-odd, needs))
+returns-2 c = looked (c .gives .ensures) refl refl (search (mixed-odd, needs))
 
 pub mixed-spec : {M : Type 1} → statement M
 mixed-spec =

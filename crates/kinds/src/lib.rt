@@ -1,4 +1,7 @@
-// The kinds of entries, by the numbers of 01's table (Entries); 0 is none.
+// The kinds of entries (01, Entries), by the numbers of the table; 0 is none. They stand here and nowhere else in the code.
+ghost use mathlib.Core.Path.{_≡_};
+ghost use Rattle.kinds.specs.Kinds.{isKind};
+
 pub const NONE: u64 = 0;
 
 pub const LOCK: u64 = 1;
@@ -32,3 +35,14 @@ pub const ECHO: u64 = 14;
 pub const END: u64 = 15;
 
 pub const CLOSED: u64 = 16;
+
+// Whether a number is a kind's.
+pub fn is_kind(kind: u8) -> bool
+    ensures { λ r. ⌜ r ≡ isKind kind ⌝ }
+{
+    if kind as u64 == NONE {
+        false
+    } else {
+        kind as u64 <= CLOSED
+    }
+}

@@ -1,0 +1,26 @@
+-- Entries as the code takes them out of a list, for the contracts of the jobs that take one: entries and lists are line's (specs/Layout).
+use mathlib.Core.List.{List}
+use Prim.Native.Nat.{ℕ}
+use Rattle.line.specs.Entries.{Entry}
+use Rattle.line.specs.Layout.{Field, current, fieldAt}
+use Rattle.kinds.specs.Kinds.{kindOf}
+use Rattle.lists.specs.declared.Fields.{Fields}
+
+-- What stands in the fields of the entry at place i of a list's bytes.
+unfoldable pub fieldsAt : (list : List ℕ) → (i : ℕ) → Fields
+fieldsAt list i =
+    record {
+      kind = fieldAt current list i Field.kind;
+      column = fieldAt current list i Field.column;
+      id = fieldAt current list i Field.id;
+      address = fieldAt current list i Field.address;
+      value = fieldAt current list i Field.value;
+    }
+
+-- The entry of what stands in the fields.
+abbrev pub entryOf : Fields → Entry
+entryOf f =
+    record {
+      place = record { column = f .column };
+      event = record { kind = kindOf (f .kind); id = f .id; address = f .address; value = f .value };
+    }

@@ -1,0 +1,113 @@
+-- `read::scan_on` meets its contract. The loop's invariant: what is reached from here over the columns that are left is what is reached
+-- from the start over all. Assumes nothing.
+use mathlib.Core.Logic.{⊎-elim}
+use mathlib.Core.Path.{_≡_, refl, sym, ap, _∙_}
+use Prim.Native.Nat.{suc, _+_, _-_, _≤_}
+use native.Mathlib.Omega.{arith}
+use borrow.Author.Needs.{needs}
+use lib.ListN.{length, drop}
+use Rattle.line.specs.Bits.{rowOf}
+use Rattle.line.specs.Entries.{Place}
+use Rattle.line.specs.Reader.{columns}
+use Rattle.reader.specs.Code.{stateOf}
+use Rattle.read.specs.Parts.{placeOf, bytesFor, kept, Reached, reached}
+use Rattle.read.proofs.Kept.{length-all}
+use Rattle.read.proofs.Left.{turn-none, turn-some, none-left}
+use Rattle.read.proofs.scan_on.Statement.{statement}
+use Rattle.read.proofs.scan_on.Tie as tie
+
+abbrev Inv-loop : tie.InvT-loop
+Inv-loop cdm cds out₀ reader₀ place₀ n₀ i₀ out reader place n i =
+    (i ≤ length cdm) × (place .column ≡ place₀ .column + i) × (n ≤ place .column)
+    × (reached (stateOf reader) (placeOf place) n out (drop i (columns (rowOf cdm) (rowOf cds)))
+    ≡ reached (stateOf reader₀) (placeOf place₀) n₀ out₀ (columns (rowOf cdm) (rowOf cds)))
+
+abbrev μ-loop : tie.MeasureT-loop
+μ-loop cdm cds out₀ reader₀ place₀ n₀ i₀ out reader place n i = length cdm - i
+
+loop-holds : tie.Need-loop-holds Inv-loop μ-loop
+loop-holds c = (search needs, omega arith, search needs, refl)
+
+shared-slice-read-m : tie.Need-shared-slice-read-m Inv-loop μ-loop
+shared-slice-read-m c = search needs
+
+shared-slice-read-step : tie.Need-shared-slice-read-step Inv-loop μ-loop
+shared-slice-read-step c = search needs
+
+step-requires : tie.Need-step-requires Inv-loop μ-loop
+step-requires c κs = search needs
+
+keep-requires : tie.Need-keep-requires Inv-loop μ-loop
+keep-requires c κs = search needs
+
+onward-requires : tie.Need-onward-requires Inv-loop μ-loop
+onward-requires c κs = search needs
+
+add-i : tie.Need-add-i Inv-loop μ-loop
+add-i c = search needs
+
+loop-less : tie.Need-loop-less Inv-loop μ-loop
+loop-less c = search needs
+
+loop-again : tie.Need-loop-again Inv-loop μ-loop
+loop-again c =
+    let stepped = c .before .before .before .before .before in
+    let turning = stepped .before .before .before in
+    let l = turning .before .loop in
+    let a = turning .before .before .before .before .before .before .before .args in
+    let r = stepped .step .result in
+    let joined = c .before .before .if1 in
+    let same = turning .before .before .before .before .before .before .before .pre .0 in
+    let place = c .before .onward .result in
+    let on = c .before .onward .ensures in
+    let moved : place .column ≡ suc (l .place .column) = ap (λ (p : Place). p .column) on in
+    ⊎-elim
+    (λ w.
+    let up : joined .n ≡ l .n + 1 = cc in
+    let stored : joined .out ≡ kept (l .out) (l .n) (bytesFor (l .place) (r .event)) = cc in (
+      search needs,
+      omega arith,
+      omega arith,
+      rw (up, stored)
+          (sym (turn-some (a .cdm .now) (a .cds .now) (l .i) (stateOf (l .reader)) r (turning .loop-test .taken) same (stepped .step .ensures) (l .place) place (l .n) (l .out) on (search needs))
+          ∙ l .inv .3),
+    ))
+    (λ w.
+    let silent : joined .n ≡ l .n = cc in
+    let stays : joined .out ≡ l .out = cc in (
+      search needs,
+      omega arith,
+      omega arith,
+      rw (silent, stays)
+          (sym (turn-none (a .cdm .now) (a .cds .now) (l .i) (stateOf (l .reader)) r (turning .loop-test .taken) same (stepped .step .ensures) (l .place) place (l .n) (l .out) on (search needs))
+          ∙ l .inv .3),
+    ))
+    (joined .came)
+
+same-length : tie.Need-same-length Inv-loop μ-loop
+unfolding reached
+same-length c =
+    sym (length-all (c .before .loop .out) (c .before .loop .n) _) ∙ ap (λ (r : Reached). length (r .buffer)) (c .before .loop .inv .3) ∙ length-all _ _ _
+
+returns : tie.Need-returns Inv-loop μ-loop
+returns c =
+    let l = c .before .loop in
+    sym (none-left _ _ (l .i) (stateOf (l .reader)) (placeOf (l .place)) (l .n) (l .out) (c .loop-test .left)) ∙ l .inv .3
+
+pub scan-on-spec : {M : Type 1} → statement M
+scan-on-spec =
+    tie.close
+    (tie.spec
+    Inv-loop
+    μ-loop
+    loop-holds
+    shared-slice-read-m
+    shared-slice-read-step
+    step-requires
+    keep-requires
+    onward-requires
+    add-i
+    loop-less
+    loop-again
+    same-length
+    returns)
