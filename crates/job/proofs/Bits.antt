@@ -10,7 +10,8 @@ use lib.Dec.{leb}
 use lib.ListN.{length, drop, getD, drop-of-length-le}
 use lib.Seq.{drop-cons}
 use Rattle.line.specs.Bits.{num}
-use Rattle.line.proofs.Text.{Bits, both}
+use Rattle.line.proofs.Text.{Bits}
+use Rattle.laws.proofs.Every.{both}
 use Rattle.job.specs.Bytes.{noneAbove, areBits}
 
 module _ (limit : ℕ) (bytes : List ℕ) (i : ℕ) (good : Bool) where

@@ -1,8 +1,8 @@
 -- Bytes laid into a lent buffer, one run after the other: stores add up, and what was laid from the start is the result with the
 -- rest of the buffer behind it. Assumes nothing.
-use mathlib.Core.Path.{_≡_, refl, ap, _∙_}
+use mathlib.Core.Path.{_≡_}
 use mathlib.Core.List.{List, [], _∷_, _++_}
-use Prim.Native.Nat.{ℕ, zero, suc, _+_, _≤_}
+use Prim.Native.Nat.{ℕ, suc, _+_, _≤_}
 use native.Mathlib.Nat.{add-zero, zero-add, add-suc, suc-add}
 use lib.ListN.{length, drop, set}
 use lib.Seq.{sets, sets-eq}

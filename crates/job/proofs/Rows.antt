@@ -9,7 +9,7 @@ use borrow.Author.Tests.{le-ltb, ltb-false, eq-eqb, eqb-true, not-false}
 use lib.Dec.{ltb, eqb}
 use lib.ListN.{length}
 use Rattle.line.specs.Limits.{columnLimit}
-use Rattle.line.proofs.Text.{both}
+use Rattle.laws.proofs.Every.{both}
 use Rattle.job.specs.Bytes.{areBits}
 use Rattle.job.specs.Refusals.{Rule, when, first}
 use Rattle.job.specs.Rows.{rowRules, wrongRows}

@@ -8,9 +8,8 @@ use native.Mathlib.Omega.{arith}
 use borrow.Author.Tests.{leb-true, leb-false, ne-eqb}
 use lib.Dec.{leb}
 use Rattle.line.specs.Entries.{Kind, closed, number, kinds, numbered}
-use Rattle.laws.proofs.Every.{tested}
+use Rattle.laws.proofs.Every.{tested, both}
 use Rattle.laws.proofs.Table.{below}
-use Rattle.line.proofs.Text.{both}
 use Rattle.kinds.specs.Kinds.{isKind}
 
 -- The last kind's number.

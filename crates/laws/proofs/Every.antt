@@ -1,7 +1,7 @@
 -- What holds of every element of a list, of what an option may hold, of both outcomes of a test, and of two lists element by
 -- element. Assumes nothing.
 use mathlib.Core.Path.{_≡_, refl}
-use mathlib.Core.Bool.{Bool, true, false, cond}
+use mathlib.Core.Bool.{Bool, true, false, cond, not, _&&_, Bool·beq, false≢true}
 use mathlib.Core.List.{List, [], _∷_}
 use mathlib.Core.Option.{Option, none, some}
 
@@ -26,6 +26,20 @@ tested false held failed = failed refl
 pub looked-up : {A Q : Type 0} (o : Option A) → (o ≡ none → Q) → ((x : A) → o ≡ some x → Q) → Q
 looked-up none nothing found = nothing refl
 looked-up (some x) nothing found = found x refl
+
+-- Both of two tests hold.
+pub both : (a b : Bool) → a && b ≡ true → (a ≡ true) × (b ≡ true)
+both true b h = (refl, h)
+both false b h = absurd (false≢true h)
+
+-- A repeated bit and an inverted one.
+pub beq-same : (b : Bool) → Bool·beq b b ≡ true
+beq-same true = refl
+beq-same false = refl
+
+pub beq-not : (b : Bool) → Bool·beq (not b) b ≡ false
+beq-not true = refl
+beq-not false = refl
 
 -- Two lists of one length, related element by element.
 abbrev pub Matched : {A : Type 0} → (A → A → Type 0) → List A → List A → Type 0

@@ -1,6 +1,6 @@
 -- A function tabulated. A table of numbers is its rule tabulated, and a test that passes at all numbers below a bound tabulates to
 -- `true` throughout: antt computes the one list and compares it with the other. Assumes nothing.
-use mathlib.Core.Path.{_≡_, refl, sym, ap, _∙_}
+use mathlib.Core.Path.{_≡_, sym, ap, _∙_}
 use mathlib.Core.Bool.{Bool, true, false}
 use mathlib.Core.List.{List, [], _∷_}
 use Prim.Native.Nat.{ℕ, zero, suc, _+_, _<_}

@@ -13,7 +13,7 @@ use Rattle.line.specs.Memory.{Memory}
 use Rattle.line.specs.Slave.{Phase, deaf, turn, speak, step}
 use Rattle.line.specs.Chain.{pass, column}
 use Rattle.laws.proofs.Every.{tested}
-use Rattle.line.proofs.Memories.{outside}
+use Rattle.laws.proofs.Places.{outside}
 use Rattle.line.proofs.Dress.{dress, passTo, pass-dress, column-dress}
 
 -- The slaves in a frame, z zeros after the last 1.

@@ -25,8 +25,9 @@ use Rattle.line.specs.Account
 use Rattle.line.specs.Replay.{is, put, whenRead}
 use Rattle.line.proofs.Words.{push-bit, word-lt, byte-word, byte-lt, LowId, header-low}
 use Rattle.line.proofs.Division.{accepted}
-use Rattle.laws.proofs.Every.{IfAny, tested, looked-up}
-use Rattle.line.proofs.Memories.{Bytes, inside, outside, set-same, at-set, every-at, stored-set, bytes-stored, goes-on}
+use Rattle.laws.proofs.Every.{IfAny, tested, looked-up, beq-same, beq-not}
+use Rattle.laws.proofs.Places.{inside, outside, set-same, at-set, every-at}
+use Rattle.line.proofs.Memories.{Bytes, stored-set, bytes-stored, goes-on}
 use Rattle.line.proofs.Dress.{dress, passTo}
 use Rattle.line.proofs.Locks.{number, arrives, lock-column}
 use Rattle.line.proofs.Addressed.{framed, only, only-deaf, column-turns, column-nobody, column-one}
@@ -133,15 +134,6 @@ called-only : (id address : ℕ) → id < idCount
 unfolding Slave.called number only
 called-only id address h =
     fun-ext (λ i. tested (ltb i idCount) (λ q. rw q) (λ q. rw (q, ne-eqb i id (λ e. omega (arith, ltb-false)))))
-
--- A repeated bit and an inverted one.
-beq-same : (b : Bool) → Bool·beq b b ≡ true
-beq-same true = refl
-beq-same false = refl
-
-pub beq-not : (b : Bool) → Bool·beq (not b) b ≡ false
-beq-not true = refl
-beq-not false = refl
 
 module _ (ks : List Memory) (bs : Bytes ks) (z z′ : ℕ) where
   -- A column of a frame that is not the fourteenth zero.

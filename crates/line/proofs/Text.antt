@@ -1,6 +1,6 @@
 -- Text: "Rows go to text and back unchanged." There and back, back and there, and a text of several pieces. Assumes nothing.
 use mathlib.Core.Path.{_≡_, refl, ap, _∙_}
-use mathlib.Core.Bool.{Bool, true, false, _&&_, false≢true}
+use mathlib.Core.Bool.{true, false, false≢true}
 use mathlib.Core.List.{List, [], _∷_, _++_, map}
 use Prim.Native.Nat.{ℕ, zero, suc, _+_, _-_, _*_, _/_, _%_, _≤_, _<_}
 use native.Mathlib.Nat.{add-zero}
@@ -10,7 +10,7 @@ use lib.Dec.{eqb}
 use lib.ListN.{length, drop, getD, length-drop}
 use lib.Seq.{drop-cons, drop-append-le}
 use Rattle.line.specs.Text.{tab, feed, digit, rowsHeader, columnLine, columnLines, rowsText, Form, exactly, bit, has, headerForm, columnForm, begins, fault, orElse, firstBad, badLine, rowIn, cdmOf, cdsOf}
-use Rattle.laws.proofs.Every.{Every, either, tested}
+use Rattle.laws.proofs.Every.{Every, either, tested, both}
 
 -- Columns: "A row holds one byte per column, 0 or 1."
 abbrev pub Bits : List ℕ → Type 0
@@ -59,10 +59,6 @@ there-and-back cdm cds e p q =
     }
 
 -- What a line of its form is: the header itself, and a column's line of its digits' bits.
-pub both : (a b : Bool) → a && b ≡ true → (a ≡ true) × (b ≡ true)
-both true b h = (refl, h)
-both false b h = absurd (false≢true h)
-
 has-bit : (b : ℕ) → has bit b ≡ true → b ≡ digit (b % 2)
 has-bit b h =
     tested (eqb b (digit 0)) (λ q. let e : b ≡ 48 = eqb-true b 48 q in omega arith)

@@ -24,9 +24,10 @@ use Rattle.line.specs.Replay.{put}
 use Rattle.line.specs.Understood.{frameAt, inFrame, Allowed, lockShown, commandShown, byteColumn, byteShown, bytesShown, standing, closing}
 use Rattle.line.proofs.Words.{push-bit, word-lt, byte-word, header-access, header-command}
 use Rattle.line.proofs.Division.{accepted}
-use Rattle.laws.proofs.Every.{Every, tested}
-use Rattle.line.proofs.Memories.{Bytes, at-set, stored-set}
-use Rattle.line.proofs.Sim.{beq-not, kept}
+use Rattle.laws.proofs.Every.{Every, tested, beq-not}
+use Rattle.laws.proofs.Places.{at-set}
+use Rattle.line.proofs.Memories.{Bytes, stored-set}
+use Rattle.line.proofs.Sim.{kept}
 use Rattle.line.proofs.Zeros.{asking, carrying, none-carried, frame-asking, calm, header-calm, access-calm}
 use Rattle.line.proofs.Walk.{Walk, noted, walk, phases, account-walk, walk-phases}
 

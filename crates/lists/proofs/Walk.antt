@@ -7,7 +7,7 @@ use Prim.Native.Nat.{ℕ, _+_, _-_, _≤_}
 use lib.ListN.{length, drop}
 use Rattle.line.specs.Entries.{Kind, kinds, numbered}
 use Rattle.line.specs.Layout.{Field, current, entryBytes, fieldAt, entryBy, andMore, isEntry, entriesIn, isList}
-use Rattle.line.proofs.Text.{both}
+use Rattle.laws.proofs.Every.{both}
 use Rattle.line.proofs.Codec.{entries-more, list-more}
 use Rattle.kinds.specs.Kinds.{isOne, isKind}
 use Rattle.lists.specs.Fields.{fieldsAt, entryOf}

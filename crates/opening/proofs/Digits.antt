@@ -1,5 +1,5 @@
 -- A word digit by digit, and what it asks by its branches. Assumes nothing.
-use mathlib.Core.Path.{_≡_, refl, sym, ap, _∙_}
+use mathlib.Core.Path.{_≡_, sym, ap, _∙_}
 use mathlib.Core.Bool.{true, false}
 use mathlib.Core.List.{List, [], _∷_}
 use Prim.Native.Nat.{ℕ, _+_, _-_, _*_, _≤_, _<_, min}
@@ -10,8 +10,7 @@ use borrow.Author.Tests.{leb-true, ltb-true, ltb-false, eq-eqb, ne-eqb}
 use lib.Dec.{ltb}
 use lib.ListN.{length, drop, getD, drop-of-length-le}
 use lib.Seq.{drop-cons}
-use Rattle.laws.proofs.Every.{tested}
-use Rattle.line.proofs.Text.{both}
+use Rattle.laws.proofs.Every.{tested, both}
 use Rattle.opening.specs.Opening.{farthest, isDigit, askedFrom, isHelp, askedBy}
 use Rattle.opening.specs.declared.Asked.the-variants.{Column, Help, Unknown}
 

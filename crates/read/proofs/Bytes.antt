@@ -14,9 +14,8 @@ use Rattle.line.specs.Division.{headerBits, checkWidth, fits, byteOf}
 use Rattle.line.specs.Header.{Header, wrong, access, command, header}
 use Rattle.line.specs.Entries.{Kind, table, Event, event, Place, opened, onward, Entry}
 use Rattle.line.specs.Reader.{Locks, ones, upto, mixed, seen, shown, Phase, deaf, locks, head, askR, askW, byteS, reads, writes, askP, Look, locked, headed, oddAnswer, asked, readKind, writeKind, look, step, Column, col, columns, entries, listFrom}
-use Rattle.laws.proofs.Every.{Every, IfAny, either, tested}
+use Rattle.laws.proofs.Every.{Every, IfAny, either, tested, both}
 use Rattle.line.proofs.Machine.{At, keeps, every-note}
-use Rattle.line.proofs.Text.{both}
 use Rattle.read.specs.Read.{listOf}
 use Rattle.read.proofs.Left.{length-columns}
 
