@@ -1,11 +1,19 @@
--- Read's promise has one answer: two results that meet it are equal, and so are the buffers that they leave. Assumes nothing.
+-- Read's promise has one answer: two results that meet it are equal, and so are the buffers that they leave; and so has the promise of a
+-- reading that goes on. Assumes nothing.
 use mathlib.Core.Path.{_≡_}
 use mathlib.Core.List.{List}
 use Prim.Native.Nat.{ℕ}
 use Rattle.job.specs.declared.Outcome.{Outcome}
 use Rattle.job.proofs.Refusals.{ended-unique}
+use Rattle.laws.proofs.Unique.{one-answer}
 use Rattle.read.specs.Read.{Listed}
+use Rattle.read.specs.Parts.{Reached, standing}
+use Rattle.read.specs.declared.Reading.{Reading}
 
 read-unique : {cdm cds : List ℕ} {k : ℕ} {out : List ℕ} {a b : Outcome} {after other : List ℕ} → Listed cdm cds k out a after
     → Listed cdm cds k out b other → (a ≡ b) × (after ≡ other)
 read-unique p q = let same = ended-unique (p .ends) (q .ends) in (same .0, cc)
+
+scan-on-unique : (a b : Reading) {after other : List ℕ} {promised : Reached} → standing a after ≡ promised → standing b other ≡ promised
+    → standing a after ≡ standing b other
+scan-on-unique a b p q = one-answer p q
