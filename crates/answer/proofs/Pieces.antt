@@ -1,31 +1,54 @@
--- A text that is longer than any admitted one and comes in pieces of whole lines: its answer hangs on the first bad line alone, and that
--- is found piece by piece. Assumes nothing.
+-- A text that is longer than any admitted one and comes in pieces: its answer hangs on its fault alone, and that is found piece by piece,
+-- wherever they begin. Assumes nothing.
 use mathlib.Core.Path.{_≡_, sym, ap, _∙_}
 use mathlib.Core.List.{List, _++_}
-use Prim.Native.Nat.{ℕ, suc, _+_, _*_, _<_}
+use Prim.Native.Nat.{ℕ, _+_, _<_}
+use native.Mathlib.Nat.{zero-add}
 use native.Mathlib.Omega.{arith}
-use borrow.Author.Tests.{eqb-true, eqb-false}
-use lib.Dec.{eqb}
 use lib.ListN.{length, length-append}
 use Rattle.line.specs.Limits.{columnLimit}
-use Rattle.line.specs.Text.{rowsHeader, orElse, firstBad, badLine, cdmOf}
-use Rattle.laws.proofs.Every.{tested}
-use Rattle.line.proofs.Text.{first-piece}
+use Rattle.line.specs.Text.{cdmOf}
+use Rattle.line.specs.Fault.{stop, faultAt, textFault}
+use Rattle.laws.proofs.Every.{looked-up}
+use Rattle.line.proofs.Fault.{stop-pieces, stop-first, fault-inside}
 use Rattle.carry.proofs.Ends.{columns-in}
 use Rattle.answer.specs.Answer.{answerText, longAnswer}
-use Rattle.answer.proofs.Rows.{answers-bad, answers-long, long-none, long-bad}
+use Rattle.answer.proofs.Rows.{answers-bad, answers-long}
 
 -- The answer to a text with more columns than a row may have.
-pub by-bad-line : (text : List ℕ) (k : ℕ) → columnLimit < length (cdmOf text) → answerText text k ≡ longAnswer (badLine text)
-by-bad-line text k h =
-    tested (eqb (badLine text) 0)
-    (λ q. let none = eqb-true _ _ q in answers-long text k none h ∙ sym (long-none _ none))
-    (λ q. let bad = eqb-false _ _ q in answers-bad text k bad ∙ sym (long-bad _ bad))
+pub by-fault : (text : List ℕ) (k : ℕ) → columnLimit < length (cdmOf text) → answerText text k ≡ longAnswer (textFault text)
+unfolding longAnswer
+by-fault text k h =
+    looked-up (textFault text) (λ e. answers-long text k e h ∙ sym (rw e)) (λ at e. answers-bad text k at e ∙ sym (rw e))
 
--- A first piece of a header and more columns than a row may have, and what comes behind it. Of that, line's in-pieces tells the first bad
--- line piece by piece.
-pub long-answer : (n : ℕ) (first rest : List ℕ) (k : ℕ) → columnLimit < n → length first ≡ length rowsHeader + 4 * n
-    → answerText (first ++ rest) k ≡ longAnswer (orElse (badLine first) (firstBad (suc n) rest))
-long-answer n first rest k h e =
-    let columns : columnLimit < length (cdmOf (first ++ rest)) = omega (arith, columns-in (first ++ rest) .0, length-append first rest) in
-    by-bad-line (first ++ rest) k columns ∙ ap longAnswer (first-piece n first rest e)
+-- Of what keeps its form and a piece behind it:
+module _ (before piece : List ℕ) (good : stop 0 before ≡ length before) where
+  abbrev here : ℕ
+  here = length before
+
+  abbrev end : ℕ
+  end = here + length piece
+
+  on : (rest : List ℕ) → stop 0 (before ++ rest) ≡ stop here rest
+  on rest = stop-pieces rest 0 before (good ∙ sym (zero-add here)) ∙ ap (λ (p : ℕ). stop p rest) (zero-add here)
+
+  -- all keeps its form where the piece does;
+  pub piece-good : stop here piece ≡ end → stop 0 (before ++ piece) ≡ length (before ++ piece)
+  piece-good e = on piece ∙ (e ∙ sym (length-append before piece))
+
+  -- and where they have more columns than a row may have, the piece has the answer if it is the last, or stops before its end.
+  module _ (k : ℕ) (long : columnLimit < length (cdmOf (before ++ piece))) where
+    pub piece-last : answerText (before ++ piece) k ≡ longAnswer (faultAt (stop here piece) end)
+    unfolding textFault
+    piece-last = by-fault (before ++ piece) k long ∙ ap longAnswer (rw (on piece, length-append))
+
+    pub piece-bad : (rest : List ℕ) → stop here piece < end → answerText (before ++ (piece ++ rest)) k ≡ longAnswer (faultAt (stop here piece) end)
+    unfolding textFault
+    piece-bad rest h =
+        let text = before ++ (piece ++ rest) in
+        let parts : length text ≡ end + length rest = omega (arith, length-append before (piece ++ rest), length-append piece rest) in
+        let longer : columnLimit < length (cdmOf text)
+        = omega (arith, columns-in text .0, columns-in (before ++ piece) .0, length-append before piece) in
+        let stopped : stop 0 text ≡ stop here piece = on (piece ++ rest) ∙ stop-first rest here piece h in
+        let inside : stop here piece < length text = omega arith in
+        by-fault text k longer ∙ ap longAnswer (rw (stopped, fault-inside _ _ inside, fault-inside _ _ h))

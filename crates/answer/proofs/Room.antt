@@ -1,16 +1,18 @@
 -- Every answer fits into the room that the indexing program has for it, so there none is refused by 9. Assumes nothing.
 use mathlib.Core.Path.{_≡_}
 use mathlib.Core.List.{List, [], _∷_}
-use Prim.Native.Nat.{ℕ, zero, suc, _*_, _^_, _≤_, _<_}
+use mathlib.Core.Option.{Option, none, some}
+use Prim.Native.Nat.{ℕ, _*_, _^_, _≤_, _<_}
 use native.Mathlib.Omega.{arith}
-use borrow.Author.Tests.{le-ltb, ltb-true, ltb-false, eqb-true, eqb-false}
-use lib.Dec.{ltb, eqb}
+use borrow.Author.Tests.{le-ltb, ltb-true, ltb-false}
+use lib.Dec.{ltb}
 use lib.ListN.{length, length-append}
 use Rattle.line.specs.Limits.{columnLimit}
 use Rattle.line.specs.Entries.{Entry}
-use Rattle.line.specs.Text.{badLine, cdmOf, cdsOf, entryLines}
-use Rattle.laws.proofs.Every.{Every, tested}
-use Rattle.line.proofs.Text.{bad-line-low}
+use Rattle.line.specs.Text.{cdmOf, cdsOf, entryLines}
+use Rattle.line.specs.Fault.{lineAt, textFault, faultLine}
+use Rattle.laws.proofs.Every.{Every, tested, looked-up}
+use Rattle.line.proofs.Fault.{line-low}
 use Rattle.job.specs.Refusals.{alone, on-line, refusal, first}
 use Rattle.job.specs.declared.Outcome.{Outcome}
 use Rattle.job.specs.declared.Outcome.the-variants.{Made}
@@ -67,21 +69,21 @@ rows-fit cdm cds k h =
 -- The list, or a refusal; a text in memory has fewer than 2 ^ 63 bytes.
 pub answer-fits : (text : List ℕ) (k : ℕ) → length text < 2 ^ 63 → length (answerText text k) ≤ answerRoom
 answer-fits text k h =
-    tested (eqb (badLine text) 0)
-    (λ q.
-    let good = eqb-true _ _ q in
+    looked-up (textFault text)
+    (λ good.
     tested (ltb columnLimit (length (cdmOf text)))
     (λ r. rw (answers-long text k good (ltb-true columnLimit (length (cdmOf text)) r)) (number-fits 5 (omega arith)))
     (λ r.
     let short : length (cdmOf text) ≤ columnLimit = ltb-false columnLimit (length (cdmOf text)) r in
     rw (answers-rows text k good short) (rows-fit (cdmOf text) (cdsOf text) k short)))
-    (λ q. rw (answers-bad text k (eqb-false _ _ q)) (line-fits (badLine text) (omega (arith, bad-line-low text))))
+    (λ at bad.
+    let low = rw bad at (line-low text) in rw (answers-bad text k at bad) (line-fits (lineAt at) (omega arith)))
 
--- The same of a text with more columns than a row may have, by its first bad line.
-long-fits : (bad : ℕ) → bad < 2 ^ 64 → length (longAnswer bad) ≤ answerRoom
+-- The same of a text with more columns than a row may have, by its fault.
+long-fits : (fault : Option ℕ) → faultLine fault < 2 ^ 64 → length (longAnswer fault) ≤ answerRoom
 unfolding longAnswer
-long-fits zero h = number-fits 5 (omega arith)
-long-fits (suc n) h = line-fits (suc n) h
+long-fits none h = number-fits 5 (omega arith)
+long-fits (some at) h = line-fits (lineAt at) h
 
 -- What fits is made.
 module _ (out : List ℕ) (room : answerRoom ≤ length out) {answer : Outcome} {after : List ℕ} where
@@ -94,5 +96,6 @@ module _ (out : List ℕ) (room : answerRoom ≤ length out) {answer : Outcome} 
       → answer ≡ Made (length (answerText text k))
   answer-made text k h = fits-made (answerText text k) (answer-fits text k h)
 
-  pub long-made : (bad : ℕ) → bad < 2 ^ 64 → Whole (longAnswer bad) out answer after → answer ≡ Made (length (longAnswer bad))
-  long-made bad h = fits-made (longAnswer bad) (long-fits bad h)
+  pub long-made : (fault : Option ℕ) → faultLine fault < 2 ^ 64 → Whole (longAnswer fault) out answer after
+      → answer ≡ Made (length (longAnswer fault))
+  long-made fault h = fits-made (longAnswer fault) (long-fits fault h)

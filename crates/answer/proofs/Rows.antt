@@ -1,8 +1,8 @@
 -- What the jobs say that the answer calls, in rooms that any result fits. Assumes nothing.
 use mathlib.Core.Path.{_≡_, refl, sym, ap, _∙_}
-use mathlib.Core.Bool.{true}
+use mathlib.Core.Bool.{true, false}
 use mathlib.Core.List.{List, [], _∷_, append-assoc}
-use mathlib.Core.Option.{none, orElse}
+use mathlib.Core.Option.{none, some, orElse}
 use Prim.Native.Nat.{ℕ, _*_, _%_, _≤_, _<_}
 use native.Mathlib.Omega.{arith}
 use borrow.Author.Tests.{lt-ltb, le-ltb, ltb-false, le-leb}
@@ -10,7 +10,8 @@ use lib.Dec.{ltb}
 use lib.ListN.{length, take, drop, getD}
 use Rattle.line.specs.Limits.{columnLimit}
 use Rattle.line.specs.Layout.{current, entryBytes, listBytes, entriesIn, isList}
-use Rattle.line.specs.Text.{badLine, rowIn, cdmOf, cdsOf, listText}
+use Rattle.line.specs.Text.{rowIn, cdmOf, cdsOf, listText}
+use Rattle.line.specs.Fault.{lineAt, isFault, faultAt, textFault}
 use Rattle.laws.proofs.Every.{tested}
 use Rattle.line.proofs.Codec.{length-list, entries-back, bytes-list}
 use Rattle.job.specs.Bytes.{noneAbove, areBits}
@@ -24,7 +25,7 @@ use Rattle.read.specs.Read.{listOf, rowsRefusals, refusals, Listed}
 use Rattle.read.proofs.Left.{length-listed}
 use Rattle.entries.specs.Lists.{listRefusals, ListPrinted}
 use Rattle.carry.specs.Carry.{badForm, textRoom, textRefusals, RowsTaken}
-use Rattle.carry.proofs.Ends.{columns-in, form-good, form-bad}
+use Rattle.carry.proofs.Ends.{columns-in, form-good}
 use Rattle.answer.specs.Answer.{refusedText, printed, answerRefusals, answerText, rowsAnswer, longAnswer, Whole}
 
 -- What is printed in each case.
@@ -45,11 +46,11 @@ module _ (cdm cds : List ℕ) (k : ℕ) where
       rw (answers-shown h, ← back) (same-rules printed (rw (ap (isList current) e ∙ bytes-list current (listOf k cdm cds))))
 
 module _ (text : List ℕ) (k : ℕ) where
-  pub answers-bad : (badLine text ≡ 0 → ⊥) → answerText text k ≡ refusedText (refusal 11 (on-line (badLine text)))
+  pub answers-bad : (at : ℕ) → textFault text ≡ some at → answerText text k ≡ refusedText (refusal 11 (on-line (lineAt at)))
   unfolding answerText answerRefusals printed first orElse
-  answers-bad h = rw (form-bad (badLine text) h)
+  answers-bad at e = rw e
 
-  module _ (good : badLine text ≡ 0) where
+  module _ (good : textFault text ≡ none) where
     pub answers-long : columnLimit < length (cdmOf text) → answerText text k ≡ refusedText (refusal 5 alone)
     unfolding answerText answerRefusals printed first orElse
     answers-long h = rw (good, lt-ltb columnLimit (length (cdmOf text)) h)
@@ -58,18 +59,18 @@ module _ (text : List ℕ) (k : ℕ) where
     unfolding answerText answerRefusals rowsAnswer first orElse
     answers-rows h = rw (good, le-ltb columnLimit (length (cdmOf text)) h)
 
-module _ (bad : ℕ) where
-  pub long-none : bad ≡ 0 → longAnswer bad ≡ refusedText (refusal 5 alone)
-  unfolding longAnswer
-  long-none e = rw e
+module _ (at end : ℕ) where
+  pub long-none : isFault at end ≡ false → longAnswer (faultAt at end) ≡ refusedText (refusal 5 alone)
+  unfolding longAnswer faultAt
+  long-none q = rw q
 
-  pub long-bad : (bad ≡ 0 → ⊥) → longAnswer bad ≡ refusedText (refusal 11 (on-line bad))
-  unfolding longAnswer
-  long-bad h = rw (form-bad bad h)
+  pub long-bad : isFault at end ≡ true → (line : ℕ) → line ≡ lineAt at → longAnswer (faultAt at end) ≡ refusedText (refusal 11 (on-line line))
+  unfolding longAnswer faultAt
+  long-bad q line e = rw (q, e)
 
 -- Rows that a text was taken into.
 pub record Rows (text cdm cds : List ℕ) (n : ℕ) : Type 0 where
-  pub good : badLine text ≡ 0
+  pub good : textFault text ≡ none
   pub short : length (cdmOf text) ≤ columnLimit
   pub in-cdm : n ≤ length cdm
   pub in-cds : n ≤ length cds
@@ -84,7 +85,7 @@ Says text cdm cds (Refused number beside) = (k : ℕ) → answerText text k ≡ 
 module _ (text cdm cds : List ℕ) (cdm-room : columnLimit ≡ length cdm) (cds-room : columnLimit ≡ length cds) where
   -- There is room for every row that 5 lets through.
   abbrev form : List Rule
-  form = found 11 (badForm (badLine text)) ∷ when (ltb columnLimit (length (cdmOf text))) 5 ∷ []
+  form = found 11 (badForm (textFault text)) ∷ when (ltb columnLimit (length (cdmOf text))) 5 ∷ []
 
   by-form : first (textRefusals text (length cdm) (length cds)) ≡ first form
   unfolding textRefusals textRoom first orElse
@@ -100,7 +101,7 @@ module _ (text cdm cds : List ℕ) (cdm-room : columnLimit ≡ length cdm) (cds-
       let in-m : m ≡ left none (lent (cdmOf text) cdm) = cc in
       let in-s : s ≡ left none (lent (cdsOf text) cds) = cc in
       record {
-        good = form-good (badLine text) (no 11 form none-given);
+        good = form-good (textFault text) (no 11 form none-given);
         short = ltb-false _ _ (no 5 form none-given);
         in-cdm = rw (in-m, done .1) (result-fits (cdmOf text) cdm);
         in-cds = rw (in-s, done .1, both) (result-fits (cdsOf text) cds);

@@ -6,7 +6,8 @@ use lib.Dec.{ltb}
 use lib.ListN.{length}
 use Rattle.line.specs.Limits.{columnLimit}
 use Rattle.line.specs.Entries.{bytes}
-use Rattle.line.specs.Text.{tab, feed, decimal, badLine, cdmOf, cdsOf, listText}
+use Rattle.line.specs.Text.{tab, feed, decimal, cdmOf, cdsOf, listText}
+use Rattle.line.specs.Fault.{textFault}
 use Rattle.job.specs.Refusals.{Detail, alone, on-line, Refusal, refusal, Rule, when, found, first}
 use Rattle.job.specs.declared.Outcome.{Outcome}
 use Rattle.print.specs.Printed.{Printed}
@@ -36,7 +37,7 @@ printed (some r) cdm cds opening = refusedText r
 -- reader's own refusals only 8 is left.
 unfoldable pub answerRefusals : (text : List ℕ) → (opening : ℕ) → List Rule
 answerRefusals text opening =
-    found 11 (badForm (badLine text))
+    found 11 (badForm (textFault text))
     ∷ when (ltb columnLimit (length (cdmOf text))) 5
     ∷ when (ltb (length (cdmOf text)) opening) 8
     ∷ []
@@ -49,9 +50,9 @@ answerText text opening = printed (first (answerRefusals text opening)) (cdmOf t
 unfoldable pub rowsAnswer : (cdm cds : List ℕ) → (opening : ℕ) → List ℕ
 rowsAnswer cdm cds opening = printed (first (when (ltb (length cdm) opening) 8 ∷ [])) cdm cds opening
 
--- The same of a text that has more columns than a row may have, by its first bad line, or 0 for none: "11, 5".
-unfoldable pub longAnswer : (bad : ℕ) → List ℕ
-longAnswer bad = refusedText (Option·getD (badForm bad) (refusal 5 alone))
+-- The same of a text that has more columns than a row may have, by its fault, or none: "11, 5".
+unfoldable pub longAnswer : (fault : Option ℕ) → List ℕ
+longAnswer fault = refusedText (Option·getD (badForm fault) (refusal 5 alone))
 
 -- A text printed whole, or refused by 9: "the result needs more room than was lent, and only then".
 abbrev pub Whole : (text out : List ℕ) → Outcome → (after : List ℕ) → Type 0

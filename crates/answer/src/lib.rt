@@ -5,6 +5,7 @@ ghost use Prim.Native.Nat.{_+_, _*_, _≤_};
 ghost use lib.ListN.{length};
 ghost use Rattle.line.specs.Limits.{columnLimit};
 ghost use Rattle.line.specs.Layout.{current, entryBytes};
+ghost use Rattle.line.specs.Fault.{faultAt};
 ghost use Rattle.job.specs.Refusals.{refusal, detail, first};
 ghost use Rattle.job.specs.Rows.{wrongRows};
 ghost use Rattle.print.specs.Laid.{Laid};
@@ -33,14 +34,15 @@ pub fn answer(text: &[u8], opening: usize, out: &mut [u8]) -> Outcome
     }
 }
 
-// The answer to a text of more columns than a row may have, by its first bad line, or 0 for none: 11 anywhere goes before 5.
-pub fn long_answer(bad: usize, out: &mut [u8]) -> Outcome
-    ensures { λ r. ⌜ Whole (longAnswer bad) (now (out .entry)) r (now (out .exit)) ⌝ }
+// The answer to a text of more columns than a row may have, by the place where it stops and its end, or that of the piece which it
+// stops in: 11 anywhere goes before 5.
+pub fn long_answer(stop: usize, end: usize, out: &mut [u8]) -> Outcome
+    ensures { λ r. ⌜ Whole (longAnswer (faultAt stop end)) (now (out .entry)) r (now (out .exit)) ⌝ }
 {
-    if bad == 0 {
-        refused(5, Detail::Alone, out)
+    if cursor::is_fault(stop, end) {
+        refused(11, Detail::OnLine(cursor::line_at(stop)), out)
     } else {
-        refused(11, Detail::OnLine(bad), out)
+        refused(5, Detail::Alone, out)
     }
 }
 

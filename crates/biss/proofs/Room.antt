@@ -3,18 +3,19 @@
 use mathlib.Core.Path.{_≡_, refl}
 use mathlib.Core.Bool.{true, false}
 use mathlib.Core.List.{List, [], _∷_}
-use mathlib.Core.Option.{none, some, orElse}
-use Prim.Native.Nat.{ℕ, zero, suc, _^_, _≤_, _<_}
+use mathlib.Core.Option.{Option, none, some, orElse}
+use Prim.Native.Nat.{ℕ, _^_, _≤_, _<_}
 use native.Mathlib.Omega.{arith}
 use borrow.Author.Tests.{ltb-false}
 use lib.ListN.{length}
 use Rattle.line.specs.Limits.{columnLimit}
 use Rattle.line.specs.Building.{Request}
 use Rattle.line.specs.Layout.{current, listBytes, entriesIn}
-use Rattle.line.specs.Text.{rowsText, badLine, cdmOf, listText}
+use Rattle.line.specs.Text.{rowsText, cdmOf, listText}
+use Rattle.line.specs.Fault.{textFault, faultLine}
 use Rattle.laws.proofs.Every.{IfAny}
 use Rattle.line.proofs.Codec.{length-list}
-use Rattle.line.proofs.Text.{bad-line-low}
+use Rattle.line.proofs.Fault.{line-low}
 use Rattle.job.specs.Refusals.{Refusal, Rule, when, found, first, refused, ending, told, Lent, Ended}
 use Rattle.job.specs.Rows.{rowRules, wrongRow, wrongRows}
 use Rattle.job.specs.declared.Outcome.{Outcome}
@@ -85,13 +86,13 @@ unfolding listRefusals
 list-printed-fits list {out} printed h =
     end-fits printed (omega arith) (λ e. let fits : length (listText (entriesIn current list)) ≤ length out = ltb-false _ _ (no 9 _ e) in omega arith)
 
-form-fits : (bad : ℕ) → bad < 2 ^ 62 → IfAny (λ (r : Refusal). Fits (refused r)) (badForm bad)
-form-fits zero h = tt
-form-fits (suc n) h = (refl, h)
+form-fits : (fault : Option ℕ) → faultLine fault < 2 ^ 62 → IfAny (λ (r : Refusal). Fits (refused r)) (badForm fault)
+form-fits none h = tt
+form-fits (some at) h = (refl, h)
 
 pub taken-fits : {text cdm cds : List ℕ} {answer : Outcome} {cdm′ cds′ : List ℕ} → RowsTaken text cdm cds answer cdm′ cds′
     → length text < 2 ^ 63 → Fits (told answer)
 unfolding textRefusals textRoom
 taken-fits {text} taken h =
-    end-fits (taken .ends) (form-fits (badLine text) (omega (arith, bad-line-low text)), omega arith)
+    end-fits (taken .ends) (form-fits (textFault text) (omega (arith, line-low text)), omega arith)
     (λ e. let short : length (cdmOf text) ≤ columnLimit = ltb-false _ _ (no 5 _ e) in omega arith)

@@ -1,13 +1,14 @@
 -- How carry's calls end: what lets rows and texts through, and the ends of text to rows. Assumes nothing.
 use mathlib.Core.Path.{_≡_, refl, sym, ap, _∙_}
 use mathlib.Core.List.{List}
-use mathlib.Core.Option.{none, some, orElse, Option·none-ne-some}
-use Prim.Native.Nat.{ℕ, zero, suc, _+_, _-_, _*_, _/_, _≤_, _<_}
+use mathlib.Core.Option.{Option, none, some, orElse, Option·none-ne-some}
+use Prim.Native.Nat.{ℕ, _+_, _-_, _*_, _/_, _≤_, _<_}
 use borrow.Author.Tests.{lt-ltb, le-ltb, ltb-false}
 use lib.ListN.{length, length-drop, drop}
 use lib.Seq.{sets}
 use Rattle.line.specs.Limits.{columnLimit}
-use Rattle.line.specs.Text.{badLine, cdmOf, cdsOf}
+use Rattle.line.specs.Text.{cdmOf, cdsOf}
+use Rattle.line.specs.Fault.{lineAt, textFault}
 use Rattle.job.specs.Refusals.{on-line, refusal, first, given}
 use Rattle.job.specs.Rows.{wrongRows}
 use Rattle.job.specs.declared.Outcome.the-variants.{Made, Refused}
@@ -49,23 +50,19 @@ columns-in text = (
   row-length 2 (drop 8 text) ∙ ap (λ (n : ℕ). n / 4) (length-drop 8 text),
 )
 
--- No bad line is told exactly where there is none; else it is told with its number.
-pub form-good : (bad : ℕ) → badForm bad ≡ none → bad ≡ 0
-form-good zero e = refl
-form-good (suc n) e = absurd (Option·none-ne-some _ (sym e))
-
-pub form-bad : (bad : ℕ) → (bad ≡ 0 → ⊥) → badForm bad ≡ some (refusal 11 (on-line bad))
-form-bad zero h = absurd (h refl)
-form-bad (suc n) h = refl
+-- No fault is told exactly where there is none.
+pub form-good : (fault : Option ℕ) → badForm fault ≡ none → fault ≡ none
+form-good none e = refl
+form-good (some at) e = absurd (Option·none-ne-some _ (sym e))
 
 -- The ends of text to rows: 11 with its line, 5 or 9, and columns.
 module _ (text cdm cds : List ℕ) where
-  pub taken-bad : (bad : ℕ) → bad ≡ badLine text → (bad ≡ 0 → ⊥) → RowsTaken text cdm cds (Refused 11 (OnLine bad)) cdm cds
+  pub taken-bad : (at line : ℕ) → textFault text ≡ some at → line ≡ lineAt at → RowsTaken text cdm cds (Refused 11 (OnLine line)) cdm cds
   unfolding textRefusals first orElse
-  taken-bad bad e h =
-      record { ends = ended-refused _ _ _ (Refused 11 (OnLine bad)) (refusal 11 (on-line bad)) refl (rw (← e, form-bad bad h)) }
+  taken-bad at line e l =
+      record { ends = ended-refused _ _ _ (Refused 11 (OnLine line)) (refusal 11 (on-line line)) refl (rw (e, l)) }
 
-  module _ (good : badLine text ≡ 0) (why : ℕ) (room : given why ≡ first (textRoom ((length text - 8) / 4) (length cdm) (length cds))) where
+  module _ (good : textFault text ≡ none) (why : ℕ) (room : given why ≡ first (textRoom ((length text - 8) / 4) (length cdm) (length cds))) where
     gives-room : given why ≡ first (textRefusals text (length cdm) (length cds))
     unfolding textRefusals first orElse
     gives-room = room ∙ sym (rw (good, columns-in text .0))

@@ -2,11 +2,12 @@
 use mathlib.Core.Bool.{_||_}
 use mathlib.Core.List.{List, [], _∷_, _++_}
 use mathlib.Core.Option.{Option, none, some}
-use Prim.Native.Nat.{ℕ, zero, suc}
+use Prim.Native.Nat.{ℕ}
 use lib.Dec.{ltb}
 use lib.ListN.{length}
 use Rattle.line.specs.Limits.{columnLimit}
-use Rattle.line.specs.Text.{rowsText, badLine, cdmOf, cdsOf}
+use Rattle.line.specs.Text.{rowsText, cdmOf, cdsOf}
+use Rattle.line.specs.Fault.{lineAt, textFault}
 use Rattle.job.specs.Refusals.{on-line, Refusal, refusal, Rule, when, found, lent, Ended}
 use Rattle.job.specs.Rows.{wrongRows}
 use Rattle.job.specs.declared.Outcome.{Outcome}
@@ -21,10 +22,10 @@ rowsRefusals cdm cds room = wrongRows cdm cds ++ when (ltb room (length (rowsTex
 abbrev pub RowsPrinted : (cdm cds out : List ℕ) → Outcome → (after : List ℕ) → Type 0
 RowsPrinted cdm cds out answer after = Printed (rowsRefusals cdm cds (length out)) (rowsText cdm cds) out answer after
 
--- Refusal 11: "text not of the form above; the first bad line", which line's badLine gives, 0 for none.
-abbrev pub badForm : (line : ℕ) → Option Refusal
-badForm zero = none
-badForm (suc n) = some (refusal 11 (on-line (suc n)))
+-- Refusal 11: "text not of the form above; the first bad line", that of the place where line's textFault finds it not so.
+abbrev pub badForm : (fault : Option ℕ) → Option Refusal
+badForm none = none
+badForm (some at) = some (refusal 11 (on-line (lineAt at)))
 
 -- Refusals 5, and 9 where so many columns need more room than either row has.
 unfoldable pub textRoom : (columns cdm-room cds-room : ℕ) → List Rule
@@ -34,7 +35,7 @@ textRoom columns cdm-room cds-room =
 -- "Text to rows: 11, 5, 9."
 unfoldable pub textRefusals : (text : List ℕ) → (cdm-room cds-room : ℕ) → List Rule
 textRefusals text cdm-room cds-room =
-    found 11 (badForm (badLine text)) ∷ textRoom (length (cdmOf text)) cdm-room cds-room
+    found 11 (badForm (textFault text)) ∷ textRoom (length (cdmOf text)) cdm-room cds-room
 
 -- What text to rows answers, in columns, and what it leaves in the lent rows.
 pub record RowsTaken (text cdm cds : List ℕ) (answer : Outcome) (cdm-after cds-after : List ℕ) : Type 0 where

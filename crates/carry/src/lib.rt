@@ -64,9 +64,9 @@ fn put_column(out: &mut [u8], at: usize, cdm: u8, cds: u8) -> usize
 pub fn text_to_rows(text: &[u8], cdm: &mut [u8], cds: &mut [u8]) -> Outcome
     ensures { λ r. ⌜ RowsTaken (now (text .entry)) (now (cdm .entry)) (now (cds .entry)) r (now (cdm .exit)) (now (cds .exit)) ⌝ }
 {
-    let bad = cursor::bad_line(text);
-    if bad != 0 {
-        return Outcome::Refused(11, Detail::OnLine(bad));
+    let stop = cursor::stop_of(text);
+    if cursor::is_fault(stop, text.len()) {
+        return Outcome::Refused(11, Detail::OnLine(cursor::line_at(stop)));
     }
     let columns = (text.len() - HEADER) / LINE;
     let why = text_room(columns, cdm.len(), cds.len());

@@ -2,10 +2,12 @@
 use mathlib.Core.Path.{_≡_}
 use mathlib.Core.Bool.{Bool}
 use mathlib.Core.List.{List, map}
-use Prim.Native.Nat.{ℕ, _^_, min}
+use Prim.Native.Nat.{ℕ, _+_}
+use native.Mathlib.Omega.{arith}
 use lib.ListN.{drop}
-use denote.Ref.{RefT}
-use Rattle.line.specs.Text.{Form, begins, firstBad, badLine}
+use denote.Ref.{RefT, now}
+use Rattle.line.specs.Text.{Form, begins}
+use Rattle.line.specs.Fault.{lineAt, stop, isFault}
 use Rattle.laws.proofs.Unique.{one-answer}
 use Rattle.cursor.specs.declared.Cursor.{Cursor}
 
@@ -13,15 +15,26 @@ new-unique : (text : RefT (List ℕ)) (a b : Cursor) → (a .text ≡ text) × (
     → (a .text ≡ b .text) × (a .at ≡ b .at)
 new-unique text a b p q = (one-answer (p .0) (q .0), one-answer (p .1) (q .1))
 
-bad-ahead-unique : (text : List ℕ) (at a b : ℕ) → a ≡ badLine (drop at text) → b ≡ badLine (drop at text) → a ≡ b
-bad-ahead-unique text at a b p q = one-answer p q
+walked-unique : (cursor a b : Cursor)
+    → (a .text ≡ cursor .text) × (a .at ≡ stop (cursor .at) (drop (cursor .at) (now (cursor .text))))
+    → (b .text ≡ cursor .text) × (b .at ≡ stop (cursor .at) (drop (cursor .at) (now (cursor .text))))
+    → (a .text ≡ b .text) × (a .at ≡ b .at)
+walked-unique cursor a b p q = (one-answer (p .0) (q .0), one-answer (p .1) (q .1))
 
-bad-line-unique : (text : List ℕ) (a b : ℕ) → a ≡ badLine text → b ≡ badLine text → a ≡ b
-bad-line-unique text a b p q = one-answer p q
+place-unique : (cursor : Cursor) (a b : ℕ) → a ≡ cursor .at → b ≡ cursor .at → a ≡ b
+place-unique cursor a b p q = one-answer p q
 
-bad-in-piece-unique : (piece : List ℕ) (before a b : ℕ)
-    → a ≡ firstBad (min before (2 ^ 63)) piece → b ≡ firstBad (min before (2 ^ 63)) piece → a ≡ b
-bad-in-piece-unique piece before a b p q = one-answer p q
+stop-of-unique : (text : List ℕ) (a b : ℕ) → a ≡ stop 0 text → b ≡ stop 0 text → a ≡ b
+stop-of-unique text a b p q = one-answer p q
+
+stop-in-unique : (piece : List ℕ) (place a b : ℕ) → a + place ≡ stop place piece → b + place ≡ stop place piece → a ≡ b
+stop-in-unique piece place a b p q = omega arith
 
 begins-with-unique : (text line : List ℕ) (a b : Bool) → a ≡ begins (map Form.exactly line) text → b ≡ begins (map Form.exactly line) text → a ≡ b
 begins-with-unique text line a b p q = one-answer p q
+
+is-fault-unique : (at end : ℕ) (a b : Bool) → a ≡ isFault at end → b ≡ isFault at end → a ≡ b
+is-fault-unique at end a b p q = one-answer p q
+
+line-at-unique : (place a b : ℕ) → a ≡ lineAt place → b ≡ lineAt place → a ≡ b
+line-at-unique place a b p q = one-answer p q

@@ -1,11 +1,14 @@
-// The line walk: the first bad line of a text of rows, from a place of a lent text on. Lines count from 1, 0 stands for none.
+// The line walk: where a text of rows leaves its form, from a place of a lent text on, or of a piece that begins anywhere in its text.
 ghost use mathlib.Core.Path.{_≡_};
 ghost use mathlib.Core.List.{map, _∷_, []};
-ghost use Prim.Native.Nat.{_+_, _≤_, _<_, _^_, min};
+ghost use Prim.Native.Nat.{_+_, _≤_, _<_};
 ghost use lib.ListN.{length, drop};
-ghost use Rattle.line.specs.Text.{Form, has, columnForm, begins, firstBad, badLine};
+ghost use Rattle.line.specs.Text.{Form, has, columnForm, begins};
+ghost use Rattle.line.specs.Fault.{lineAt, formAt, stop, isFault};
 
 // Text: "header `cdm` TAB `cds` LF, then digit TAB digit LF for each column".
+const NAMES: [u8; HEADER] = *b"cdm\tcds\n";
+
 const TAB: u8 = b'\t';
 
 const FEED: u8 = b'\n';
@@ -13,9 +16,6 @@ const FEED: u8 = b'\n';
 const HEADER: usize = 8;
 
 const LINE: usize = 4;
-
-// As many lines before a piece as count: no text has more.
-const LINE_LIMIT: usize = 9223372036854775808;
 
 // Text: "The text is walked by a cursor that holds the lent text and its place."
 pub struct Cursor<'a> {
@@ -30,86 +30,119 @@ pub fn new<'a>(text: &'a [u8]) -> Cursor<'a>
     Cursor { text, at: 0 }
 }
 
-// The line walk: the first bad line of the text that begins at the cursor.
-pub fn bad_ahead<'a>(cursor: Cursor<'a>) -> usize
-    ensures { λ r. ⌜ r ≡ badLine (drop (cursor .entry .at) (now (cursor .entry .text))) ⌝ }
+// The line walk: the cursor moved on to the first byte that has not its form, or to the end.
+pub fn walked<'a>(cursor: Cursor<'a>) -> Cursor<'a>
+    ensures { λ r. ⌜ (r .text ≡ cursor .entry .text) × (r .at ≡ stop (cursor .entry .at) (drop (cursor .entry .at) (now (cursor .entry .text)))) ⌝ }
 {
-    bad_from(cursor.text, cursor.at)
+    let at = stop_from(cursor.text, cursor.at);
+    Cursor {
+        text: cursor.text,
+        at,
+    }
 }
 
-// The first bad line of a text, for callers that hold no cursor.
-pub fn bad_line(text: &[u8]) -> usize
-    ensures { λ r. ⌜ r ≡ badLine (now (text .entry)) ⌝ }
+pub fn place<'a>(cursor: Cursor<'a>) -> usize
+    ensures { λ r. ⌜ r ≡ cursor .entry .at ⌝ }
 {
-    bad_ahead(new(text))
+    cursor.at
 }
 
-// The first bad line of the text that begins at a place: 1 where that is past the end.
-fn bad_from(text: &[u8], at: usize) -> usize
-    ensures { λ r. ⌜ r ≡ badLine (drop at (now (text .entry))) ⌝ }
+// The stop of a text, for callers that hold no cursor.
+pub fn stop_of(text: &[u8]) -> usize
+    ensures { λ r. ⌜ r ≡ stop 0 (now (text .entry)) ⌝ }
+{
+    place(walked(new(text)))
+}
+
+// The stop of what is left of a text at a place.
+fn stop_from(text: &[u8], at: usize) -> usize
+    ensures { λ r. ⌜ r ≡ stop at (drop at (now (text .entry))) ⌝ }
 {
     if text.len() < at {
-        return 1;
+        return at;
     }
-    if starts(text, at, b"cdm\tcds\n") {
-        first_bad(text, at + HEADER, 1)
+    stop_in(&text[at..], at) + at
+}
+
+// For a text that comes in pieces: how far into a piece its stop is, where so many bytes of the text are before it. Below the header
+// the form repeats itself, so the lines before it need not be counted.
+pub fn stop_in(piece: &[u8], place: usize) -> usize
+    ensures { λ r. ⌜ r + place ≡ stop place (now (piece .entry)) ⌝ }
+{
+    if place < HEADER {
+        walk(piece, place)
     } else {
-        1
+        walk(piece, HEADER + place % LINE)
     }
 }
 
-// For a text that comes in pieces of whole lines: the first bad line of a piece below the header, with so many lines before it.
-pub fn bad_in_piece(piece: &[u8], before: usize) -> usize
-    ensures { λ r. ⌜ r ≡ firstBad (min before (2 ^ 63)) (now (piece .entry)) ⌝ }
+// Whole lines first, and byte by byte what is left: the rest of a line that began before the piece, and a line that is bad or cut short.
+fn walk(piece: &[u8], before: usize) -> usize
+    requires { ⌜ before < 12 ⌝ }
+    ensures { λ r. ⌜ r + before ≡ stop before (now (piece .entry)) ⌝ }
 {
-    if before < LINE_LIMIT {
-        first_bad(piece, 0, before)
-    } else {
-        first_bad(piece, 0, LINE_LIMIT)
+    let mut p = past_lines(piece, past_header(piece, before), before);
+    while p < piece.len() {
+        if is_formed(p + before, piece[p]) {
+            p = past_lines(piece, p + 1, before);
+        } else {
+            return p;
+        }
     }
+    p
+}
+
+// Past the header, where a whole one begins here.
+fn past_header(piece: &[u8], before: usize) -> usize
+    ensures { λ r. ⌜ (r ≤ length (now (piece .entry))) × (stop (r + before) (drop r (now (piece .entry))) ≡ stop before (now (piece .entry))) ⌝ }
+{
+    if before != 0 {
+        return 0;
+    }
+    if begins_with(piece, &NAMES) {
+        HEADER
+    } else {
+        0
+    }
+}
+
+// From the start of a column's line past all lines that have their form; from any other place nowhere.
+fn past_lines(piece: &[u8], from: usize, before: usize) -> usize
+    requires { ⌜ (from ≤ length (now piece)) × (before < 12) ⌝ }
+    ensures { λ r. ⌜ (from ≤ r) × (r ≤ length (now (piece .entry))) × (stop (r + before) (drop r (now (piece .entry))) ≡ stop (from + before) (drop from (now (piece .entry)))) ⌝ }
+{
+    if from + before < HEADER {
+        return from;
+    }
+    if (from + before) % LINE != 0 {
+        return from;
+    }
+    let mut i = from;
+    while LINE <= piece.len() - i {
+        if is_column(piece[i], piece[i + 1], piece[i + 2], piece[i + 3]) {
+            i += LINE;
+        } else {
+            return i;
+        }
+    }
+    i
 }
 
 // Whether a text begins with these bytes.
 pub fn begins_with(text: &[u8], line: &[u8]) -> bool
     ensures { λ r. ⌜ r ≡ begins (map Form.exactly (now (line .entry))) (now (text .entry)) ⌝ }
 {
-    starts(text, 0, line)
-}
-
-// Whether the text at a place begins with these bytes.
-fn starts(text: &[u8], at: usize, line: &[u8]) -> bool
-    requires { ⌜ at ≤ length (now text) ⌝ }
-    ensures { λ r. ⌜ r ≡ begins (map Form.exactly (now (line .entry))) (drop at (now (text .entry))) ⌝ }
-{
-    if text.len() - at < line.len() {
+    if text.len() < line.len() {
         return false;
     }
     let mut j = 0;
     while j < line.len() {
-        if text[at + j] != line[j] {
+        if text[j] != line[j] {
             return false;
         }
         j += 1;
     }
     true
-}
-
-// The first bad line of the column lines from a place on, with so many lines before them.
-fn first_bad(text: &[u8], from: usize, before: usize) -> usize
-    requires { ⌜ (from ≤ length (now text)) × (before ≤ 2 ^ 63) ⌝ }
-    ensures { λ r. ⌜ r ≡ firstBad before (drop from (now (text .entry))) ⌝ }
-{
-    let mut i = from;
-    let mut k = before;
-    while LINE <= text.len() - i {
-        if is_column(text[i], text[i + 1], text[i + 2], text[i + 3]) {
-            i += LINE;
-            k += 1;
-        } else {
-            return k + 1;
-        }
-    }
-    if i < text.len() { k + 1 } else { 0 }
 }
 
 // "digit TAB digit LF"
@@ -127,9 +160,44 @@ fn is_column(cdm: u8, tab: u8, cds: u8, feed: u8) -> bool
     }
 }
 
+// The byte at a place of a text has its form.
+fn is_formed(place: usize, byte: u8) -> bool
+    ensures { λ r. ⌜ r ≡ has (formAt place) byte ⌝ }
+{
+    if place < HEADER {
+        return byte == NAMES[place];
+    }
+    match place % LINE {
+        1 => byte == TAB,
+        3 => byte == FEED,
+        _ => is_bit(byte),
+    }
+}
+
 // A digit 0 or 1.
 fn is_bit(byte: u8) -> bool
     ensures { λ r. ⌜ r ≡ has Form.bit byte ⌝ }
 {
     if byte == b'0' { true } else { byte == b'1' }
+}
+
+// The line of a place in a text, from 1.
+pub fn line_at(place: usize) -> usize
+    ensures { λ r. ⌜ r ≡ lineAt place ⌝ }
+{
+    if HEADER <= place {
+        2 + (place - HEADER) / LINE
+    } else {
+        1
+    }
+}
+
+// Whether a stop at a place of a text with this end is a fault.
+pub fn is_fault(at: usize, end: usize) -> bool
+    ensures { λ r. ⌜ r ≡ isFault at end ⌝ }
+{
+    if at != end {
+        return true;
+    }
+    if at < HEADER { true } else { at % LINE != 0 }
 }

@@ -5,7 +5,9 @@ use mathlib.Core.Option.{none, orElse}
 use Prim.Native.Nat.{ℕ, _≤_}
 use lib.ListN.{length, take}
 use Rattle.line.specs.Text.{badLine, cdmOf, cdsOf}
+use Rattle.line.specs.Fault.{textFault}
 use Rattle.line.proofs.Text.{Back, there-and-back}
+use Rattle.line.proofs.Fault.{nothing-wrong, nothing-told}
 use Rattle.job.specs.Refusals.{first, lent, left}
 use Rattle.job.specs.declared.Outcome.{Outcome}
 use Rattle.job.specs.declared.Outcome.the-variants.{Made}
@@ -30,7 +32,7 @@ rows-taken {text} {a} {b} {a′} {b′} {n} rows =
     let in-cdm : a′ ≡ left none (lent (cdmOf text) a) = cc in
     let in-cds : b′ ≡ left none (lent (cdsOf text) b) = cc in
     record {
-      good = form-good (badLine text) (no 11 _ (done .0));
+      good = nothing-wrong text (form-good (textFault text) (no 11 _ (done .0)));
       cdm-there = rw (done .1, in-cdm) (result-first (cdmOf text) a);
       cds-there = rw (done .1, both, in-cds) (result-first (cdsOf text) b);
     }
@@ -53,4 +55,4 @@ module _ (cdm cds : List ℕ) {out text : List ℕ} {n : ℕ} (printed : RowsPri
   printed-taken {a} {b} rows room room′ =
       let back = printed-back in
       let fits = room-given (length cdm) (length a) (length b) (printed-right .short) room room′ in
-      rw (back .cdm-back) at (ended-none (rows .ends) (rw (back .good, back .cdm-back) fits))
+      rw (back .cdm-back) at (ended-none (rows .ends) (rw (nothing-told _ (back .good), back .cdm-back) fits))

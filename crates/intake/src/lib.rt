@@ -2,7 +2,7 @@
 // says of it. A read or a write that fails is told on standard error, and nothing is printed as if it were an answer.
 mod words;
 
-ghost use Prim.Native.Nat.{_+_, _≤_};
+ghost use Prim.Native.Nat.{_+_, _≤_, _^_};
 ghost use mathlib.Core.Path.{_≡_};
 ghost use lib.ListN.{length};
 ghost use Rattle.io.specs.Counts.{Counts};
@@ -14,11 +14,6 @@ use opening::Asked;
 
 // The longest text of admitted rows is a header of 8 bytes and 4,096 lines of 4; a piece has room for a line more.
 const PIECE: usize = 16396;
-
-// The lines of the first piece, where it is full: its header and 4,097 columns; and those of a later one.
-const FIRST_LINES: usize = 4098;
-
-const PIECE_LINES: usize = 4099;
 
 // Nothing says that an input ends, so its pieces are counted down from a number that no input reaches.
 const PIECES: usize = 1099511627776;
@@ -34,11 +29,10 @@ struct Filled {
 
 // What a piece of a long text showed.
 enum Piece {
-    // Whole lines, all good, and perhaps more behind them.
+    // A full piece that keeps its form, and perhaps more behind it.
     More,
-    // The end, and no bad line.
-    End,
-    Bad(usize),
+    // The place where the text stops, and the end of what was read of it.
+    Last(usize, usize),
     Failed,
 }
 
@@ -83,11 +77,11 @@ fn list_first(text: &[u8], opening: usize) {
         list_text(text, opening);
         return;
     }
-    let bad = cursor::bad_line(text);
-    if bad == 0 {
+    let stop = cursor::stop_of(text);
+    if stop == PIECE {
         list_rest();
     } else {
-        print_long(bad);
+        print_long(stop, text.len());
     }
 }
 
@@ -98,22 +92,19 @@ fn list_text(text: &[u8], opening: usize) {
     print(&out, answered);
 }
 
-// A text with more columns than a row may have, whose first piece is good: what is behind it is read to the first bad line or to the end.
+// A text with more columns than a row may have, whose first piece keeps its form: what is behind it is read to its stop. A piece may
+// begin anywhere in a line, so all that is known of the pieces before it is how many bytes they have.
 fn list_rest() {
-    let mut before = FIRST_LINES;
+    let mut place = PIECE;
     let mut pieces = PIECES;
     while 0 < pieces {
-        match next_piece(before) {
+        match next_piece(place) {
             Piece::More => {
-                before += PIECE_LINES;
+                place += PIECE;
                 pieces -= 1;
             }
-            Piece::End => {
-                print_long(0);
-                return;
-            }
-            Piece::Bad(line) => {
-                print_long(line);
+            Piece::Last(stop, end) => {
+                print_long(stop, end);
                 return;
             }
             Piece::Failed => {
@@ -125,33 +116,34 @@ fn list_rest() {
     words::no_end();
 }
 
-// The next piece, with so many lines before it.
-fn next_piece(before: usize) -> Piece {
+// The next piece, with so many bytes before it.
+fn next_piece(place: usize) -> Piece
+    requires { ⌜ place ≤ 2 ^ 62 ⌝ }
+{
     let mut text = piece_room();
     let filled = fill(&mut text);
     if filled.failed {
         return Piece::Failed;
     }
     let n = filled.count;
-    shown(&text[..n], before)
+    shown(&text[..n], place)
 }
 
-fn shown(text: &[u8], before: usize) -> Piece {
-    let bad = cursor::bad_in_piece(text, before);
-    if bad != 0 {
-        return Piece::Bad(bad);
-    }
-    if text.len() < PIECE {
-        Piece::End
-    } else {
+fn shown(text: &[u8], place: usize) -> Piece
+    requires { ⌜ place ≤ 2 ^ 62 ⌝ }
+{
+    let stop = cursor::stop_in(text, place);
+    if stop == PIECE {
         Piece::More
+    } else {
+        Piece::Last(place + stop, place + text.len())
     }
 }
 
-// The answer to a text that is too long, with its first bad line or 0.
-fn print_long(bad: usize) {
+// The answer to a text that is too long, by the place where it stops and the end of what was read of it.
+fn print_long(stop: usize, end: usize) {
     let mut out = answer_room();
-    let answered = answer::long_answer(bad, &mut out);
+    let answered = answer::long_answer(stop, end, &mut out);
     print(&out, answered);
 }
 

@@ -7,6 +7,7 @@ pub mod Words
 pub mod Pieces
 pub mod Codec
 pub mod Text
+pub mod Fault
 pub mod Printed
 pub mod Channels
 pub mod Rest

@@ -1,16 +1,15 @@
--- Text: "Rows go to text and back unchanged." There and back, back and there, and a text of several pieces. Assumes nothing.
+-- Text: "Rows go to text and back unchanged." There and back, and back and there. Assumes nothing.
 use mathlib.Core.Path.{_≡_, refl, ap, _∙_}
 use mathlib.Core.Bool.{true, false, false≢true}
 use mathlib.Core.List.{List, [], _∷_, _++_, map}
-use Prim.Native.Nat.{ℕ, zero, suc, _+_, _-_, _*_, _/_, _%_, _≤_, _<_}
-use native.Mathlib.Nat.{add-zero}
+use Prim.Native.Nat.{ℕ, zero, suc, _+_, _-_, _%_, _≤_, _<_}
 use native.Mathlib.Omega.{arith}
 use borrow.Author.Tests.{eqb-true}
 use lib.Dec.{eqb}
-use lib.ListN.{length, drop, getD, length-drop}
-use lib.Seq.{drop-cons, drop-append-le}
+use lib.ListN.{length, drop, getD}
+use lib.Seq.{drop-cons}
 use Rattle.line.specs.Text.{tab, feed, digit, rowsHeader, columnLine, columnLines, rowsText, Form, exactly, bit, has, headerForm, columnForm, begins, fault, orElse, firstBad, badLine, rowIn, cdmOf, cdsOf}
-use Rattle.laws.proofs.Every.{Every, either, tested, both}
+use Rattle.laws.proofs.Every.{Every, tested, both}
 
 -- Columns: "A row holds one byte per column, 0 or 1."
 abbrev pub Bits : List ℕ → Type 0
@@ -96,10 +95,6 @@ pub neither : (fault rest : ℕ) → orElse fault rest ≡ 0 → (fault ≡ 0) �
 neither zero rest e = (refl, e)
 neither (suc n) rest e = absurd (omega arith)
 
-or-else-assoc : (a b c : ℕ) → orElse a (orElse b c) ≡ orElse (orElse a b) c
-or-else-assoc zero b c = refl
-or-else-assoc (suc a) b c = refl
-
 -- A text that begins with a line is as long, so a line of fewer than four bytes is cut short.
 pub begins-long : (form : List Form) (text : List ℕ) → begins form text ≡ true → length form ≤ length text
 unfolding begins
@@ -137,41 +132,6 @@ unfolding badLine
 good-long text e =
     begins-long headerForm text (no-fault headerForm 0 text (neither (fault headerForm 0 text) _ e .0))
 
--- A text in pieces: of a piece of whole lines and what comes behind it, the first bad line is that of the piece, else that of the rest.
-pub in-pieces : (n before : ℕ) (piece rest : List ℕ) → length piece ≡ 4 * n
-    → firstBad before (piece ++ rest) ≡ orElse (firstBad before piece) (firstBad (before + n) rest)
-unfolding firstBad
-in-pieces zero before [] rest e = rw add-zero
-in-pieces zero before (a ∷ piece) rest e = absurd (omega arith)
-in-pieces (suc n) before [] rest e = absurd (omega arith)
-in-pieces (suc n) before (a ∷ []) rest e = absurd (omega arith)
-in-pieces (suc n) before (a ∷ b ∷ []) rest e = absurd (omega arith)
-in-pieces (suc n) before (a ∷ b ∷ c ∷ []) rest e = absurd (omega arith)
-in-pieces (suc n) before (a ∷ b ∷ c ∷ d ∷ piece) rest e =
-    let on : before + 1 + n ≡ before + suc n = omega arith in
-    rw (in-pieces n (before + 1) piece rest (omega arith), on, or-else-assoc (fault columnForm before (a ∷ b ∷ c ∷ d ∷ [])))
-
--- .. and so for the first piece, which has the header.
-begins-front : (form : List Form) (front rest : List ℕ) → length form ≤ length front → begins form (front ++ rest) ≡ begins form front
-unfolding begins
-begins-front [] front rest h = refl
-begins-front (f ∷ form) [] rest h = absurd (omega arith)
-begins-front (f ∷ form) (b ∷ front) rest h = rw (begins-front form front rest (omega arith))
-
-pub first-piece : (n : ℕ) (piece rest : List ℕ) → length piece ≡ length rowsHeader + 4 * n
-    → badLine (piece ++ rest) ≡ orElse (badLine piece) (firstBad (suc n) rest)
-unfolding badLine fault
-first-piece n piece rest e =
-    let lines : length (drop 8 piece) ≡ 4 * n = length-drop 8 piece ∙ omega arith in
-    let on : 1 + n ≡ suc n = omega arith in
-    rw (
-      begins-front headerForm piece rest (omega arith),
-      drop-append-le 8 piece rest (omega arith),
-      in-pieces n 1 (drop 8 piece) rest lines,
-      on,
-      or-else-assoc (fault headerForm 0 piece),
-    )
-
 -- The first four bytes of a text from a place on.
 pub four : (text : List ℕ) (i : ℕ) → 4 ≤ length text - i
     → drop i text ≡ getD text i 0 ∷ getD text (i + 1) 0 ∷ getD text (i + 2) 0 ∷ getD text (i + 3) 0 ∷ drop (i + 4) text
@@ -190,30 +150,3 @@ four text i h =
       drop-cons text (i + 3) 0 (omega arith),
       last,
     )
-
--- The number of a bad line: a fault is told of no later line than the one it is in ..
-fault-low : (form : List Form) (before : ℕ) (text : List ℕ) → fault form before text ≤ suc before
-unfolding fault
-fault-low form before text = either (λ n. n ≤ suc before) (begins form text) (omega arith) (omega arith)
-
-or-low : (most fault rest : ℕ) → fault ≤ most → rest ≤ most → orElse fault rest ≤ most
-or-low most zero rest h k = k
-or-low most (suc fault) rest h k = h
-
--- .. and four bytes go to a line, the last of which may be cut short.
-first-bad-low : (before : ℕ) (text : List ℕ) → firstBad before text ≤ before + (length text + 3) / 4
-unfolding firstBad
-first-bad-low before [] = omega arith
-first-bad-low before (a ∷ []) = omega (arith, fault-low columnForm before (a ∷ []))
-first-bad-low before (a ∷ b ∷ []) = omega (arith, fault-low columnForm before (a ∷ b ∷ []))
-first-bad-low before (a ∷ b ∷ c ∷ []) = omega (arith, fault-low columnForm before (a ∷ b ∷ c ∷ []))
-first-bad-low before (a ∷ b ∷ c ∷ d ∷ text) =
-    let line = a ∷ b ∷ c ∷ d ∷ [] in
-    or-low (before + (length (a ∷ b ∷ c ∷ d ∷ text) + 3) / 4) (fault columnForm before line) (firstBad (before + 1) text)
-    (omega (arith, fault-low columnForm before line)) (omega (arith, first-bad-low (before + 1) text))
-
-pub bad-line-low : (text : List ℕ) → badLine text ≤ 1 + length text / 4
-unfolding badLine
-bad-line-low text =
-    or-low (1 + length text / 4) (fault headerForm 0 text) (firstBad 1 (drop 8 text)) (omega (arith, fault-low headerForm 0 text))
-    (omega (arith, first-bad-low 1 (drop 8 text), length-drop 8 text))

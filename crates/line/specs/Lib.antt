@@ -26,5 +26,6 @@ pub mod Replay
 pub mod Understood
 pub mod Runs
 pub mod Text
+pub mod Fault
 pub mod Channels
 pub mod Card

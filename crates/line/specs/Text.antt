@@ -62,9 +62,8 @@ begins [] text = true
 begins (f ∷ fs) [] = false
 begins (f ∷ fs) (b ∷ bs) = has f b && begins fs bs
 
--- Refusal 11: "text not of the form above; the first bad line". What is told of the line that a text begins with: 0 where it has its
--- form, else its number, with so many lines before it. Whatever else is to be told of a bad line is told here; the walk below only
--- hands it on.
+-- "the first bad line", taken line by line (by its places a text is judged in specs/Fault). Of the line that a text begins with: 0 where
+-- it has its form, else its number, with so many lines before it.
 unfoldable pub fault : List Form → (before : ℕ) → (text : List ℕ) → ℕ
 fault form before text = cond (begins form text) 0 (suc before)
 

@@ -1,8 +1,15 @@
 -- `answer::long_answer` meets its contract. Assumes nothing.
+use mathlib.Core.Path.{sym, _∙_}
 use borrow.Author.Needs.{needs}
 use Rattle.answer.proofs.Rows.{long-none, long-bad}
 use Rattle.answer.proofs.long_answer.Statement.{statement}
 use Rattle.answer.proofs.long_answer.Tie as tie
+
+is-fault-requires : tie.Need-is-fault-requires
+is-fault-requires c κs = search needs
+
+line-at-requires : tie.Need-line-at-requires
+line-at-requires c κs = search needs
 
 refused-requires : tie.Need-refused-requires
 refused-requires c κs = search needs
@@ -16,7 +23,10 @@ same-length c = search needs
 returns : tie.Need-returns
 returns c =
     let told = c .before .before in
-    rw (long-none _ (told .before .before .if1 .taken)) (told .refused .ensures)
+    let line = told .before .before in
+    let bad = line .before in
+    let a = bad .before .before .before .args in
+    rw (long-bad (a .stop) (a .end) (sym (bad .before .is-fault .ensures) ∙ bad .if1 .taken) _ (line .line-at .ensures)) (told .refused .ensures)
 
 same-length-2 : tie.Need-same-length-2
 same-length-2 c = search needs
@@ -24,9 +34,19 @@ same-length-2 c = search needs
 returns-2 : tie.Need-returns-2
 returns-2 c =
     let told = c .before .before in
-    rw (long-bad _ (told .before .before .if1 .left)) (told .refused2 .ensures)
+    let good = told .before .before in
+    let a = good .before .before .before .args in
+    rw (long-none (a .stop) (a .end) (sym (good .before .is-fault .ensures) ∙ good .if1 .left)) (told .refused2 .ensures)
 
 pub long-answer-spec : {M : Type 1} → statement M
 long-answer-spec =
     tie.close
-    (tie.spec refused-requires refused-requires-2 same-length returns same-length-2 returns-2)
+    (tie.spec
+    is-fault-requires
+    line-at-requires
+    refused-requires
+    refused-requires-2
+    same-length
+    returns
+    same-length-2
+    returns-2)

@@ -1,20 +1,34 @@
--- `carry::text_to_rows` meets its contract: no bad line, room for the columns, and then their digits. Assumes nothing.
+-- `carry::text_to_rows` meets its contract: no fault, room for the columns, and then their digits. Assumes nothing.
 use mathlib.Core.Path.{sym, _∙_}
 use borrow.Author.Needs.{needs}
 use Rattle.job.proofs.Refusals.{gave-none}
-use Rattle.carry.proofs.Ends.{room-enough, taken-bad, taken-refused, taken-columns}
 use Rattle.line.proofs.Text.{good-long}
+use Rattle.line.proofs.Fault.{nothing-wrong, fault-there, fault-none}
+use Rattle.carry.proofs.Ends.{room-enough, taken-bad, taken-refused, taken-columns}
 use Rattle.carry.proofs.text_to_rows.Statement.{statement}
 use Rattle.carry.proofs.text_to_rows.Tie as tie
 
-bad-line-requires : tie.Need-bad-line-requires
-bad-line-requires c κs = search needs
+stop-of-requires : tie.Need-stop-of-requires
+stop-of-requires c κs = search needs
+
+is-fault-requires : tie.Need-is-fault-requires
+is-fault-requires c κs = search needs
+
+line-at-requires : tie.Need-line-at-requires
+line-at-requires c κs = search needs
 
 returns : tie.Need-returns
-returns c = taken-bad _ _ _ _ (c .before .bad-line .ensures) (c .if1 .taken)
+returns c =
+    let bad = c .before in
+    let asked = bad .before in
+    taken-bad _ _ _ _ _ (fault-there _ _ (asked .before .stop-of .ensures) (sym (asked .is-fault .ensures) ∙ bad .if1 .taken)) (c .line-at .ensures)
 
 sub-columns : tie.Need-sub-columns
-sub-columns c = let long = good-long _ (sym (c .before .bad-line .ensures) ∙ c .if1 .left) in search needs
+sub-columns c =
+    let asked = c .before in
+    let none-there = fault-none _ _ (asked .before .stop-of .ensures) (sym (asked .is-fault .ensures) ∙ c .if1 .left) in
+    let long = good-long _ (nothing-wrong _ none-there) in
+    search needs
 
 text-room-requires : tie.Need-text-room-requires
 text-room-requires c κs = search needs
@@ -22,13 +36,17 @@ text-room-requires c κs = search needs
 returns-2 : tie.Need-returns-2
 returns-2 c =
     let good = c .before .before in
-    taken-refused _ _ _ (sym (good .before .bad-line .ensures) ∙ good .if1 .left) _ (c .before .text-room .ensures) (c .if2 .taken)
+    let asked = good .before in
+    let none-there = fault-none _ _ (asked .before .stop-of .ensures) (sym (asked .is-fault .ensures) ∙ good .if1 .left) in
+    taken-refused _ _ _ none-there _ (c .before .text-room .ensures) (c .if2 .taken)
 
 put-rows-requires : tie.Need-put-rows-requires
 put-rows-requires c κs =
     let room = c .before .before in
     let good = room .before .before in
-    let long = good-long _ (sym (good .before .bad-line .ensures) ∙ good .if1 .left) in
+    let asked = good .before in
+    let none-there = fault-none _ _ (asked .before .stop-of .ensures) (sym (asked .is-fault .ensures) ∙ good .if1 .left) in
+    let long = good-long _ (nothing-wrong _ none-there) in
     let rows = room-enough _ _ _ (gave-none _ (room .before .text-room .ensures) (room .if2 .left)) in
     search needs
 
@@ -43,13 +61,17 @@ returns-3 c =
     let put = c .before .before .before .before in
     let room = put .before .before .before in
     let good = room .before .before in
-    taken-columns _ _ _ (sym (good .before .bad-line .ensures) ∙ good .if1 .left) _ (room .before .text-room .ensures) (room .if2 .left) _ _ (put .put-rows .ensures)
+    let asked = good .before in
+    let none-there = fault-none _ _ (asked .before .stop-of .ensures) (sym (asked .is-fault .ensures) ∙ good .if1 .left) in
+    taken-columns _ _ _ none-there _ (room .before .text-room .ensures) (room .if2 .left) _ _ (put .put-rows .ensures)
 
 pub text-to-rows-spec : {M : Type 1} → statement M
 text-to-rows-spec =
     tie.close
     (tie.spec
-    bad-line-requires
+    stop-of-requires
+    is-fault-requires
+    line-at-requires
     returns
     sub-columns
     text-room-requires

@@ -1,36 +1,29 @@
--- `cursor::starts` meets its contract. The loop's invariant: the bytes that are left of the line decide what all of them decide.
+-- `cursor::begins_with` meets its contract. The loop's invariant: the bytes that are left of the line decide what all of them decide.
 -- Assumes nothing.
 use mathlib.Core.List.{map}
 use mathlib.Core.Path.{_≡_, sym, _∙_}
-use Prim.Native.Nat.{_+_, _-_, _≤_}
-use native.Mathlib.Nat.{add-zero}
+use Prim.Native.Nat.{_-_, _≤_}
 use borrow.Author.Needs.{needs}
 use lib.ListN.{length, drop}
 use Rattle.cursor.proofs.Lines.{byte-differs, byte-same, no-byte, too-short}
 use Rattle.line.specs.Text.{exactly, begins}
-use Rattle.cursor.proofs.starts.Statement.{statement}
-use Rattle.cursor.proofs.starts.Tie as tie
+use Rattle.cursor.proofs.begins_with.Statement.{statement}
+use Rattle.cursor.proofs.begins_with.Tie as tie
 
 abbrev Inv-loop : tie.InvT-loop
-Inv-loop text at line j₀ j =
-    (j ≤ length line) × (begins (map exactly (drop j line)) (drop (at + j) text) ≡ begins (map exactly line) (drop at text))
+Inv-loop text line j₀ j =
+    (j ≤ length line) × (begins (map exactly (drop j line)) (drop j text) ≡ begins (map exactly line) text)
 
 abbrev μ-loop : tie.MeasureT-loop
-μ-loop text at line j₀ j = length line - j
-
-sub-if1 : tie.Need-sub-if1 Inv-loop μ-loop
-sub-if1 c = search needs
+μ-loop text line j₀ j = length line - j
 
 returns : tie.Need-returns Inv-loop μ-loop
 returns c =
     let a = c .before .args in
-    sym (too-short (a .line .now) (a .text .now) (a .at) (c .if1 .taken))
+    sym (too-short (a .line .now) (a .text .now) (c .if1 .taken))
 
 loop-holds : tie.Need-loop-holds Inv-loop μ-loop
-loop-holds c = (search needs, rw add-zero)
-
-add-if2 : tie.Need-add-if2 Inv-loop μ-loop
-add-if2 c = search needs
+loop-holds c = search needs
 
 shared-slice-read-if2 : tie.Need-shared-slice-read-if2 Inv-loop μ-loop
 shared-slice-read-if2 c = search needs
@@ -42,7 +35,7 @@ returns-2 : tie.Need-returns-2 Inv-loop μ-loop
 returns-2 c =
     let turn = c .before .before .before in
     let l = turn .before .loop in
-    sym (byte-differs _ _ _ (l .j) (turn .loop-test .taken) (search needs) (c .if2 .taken)) ∙ l .inv .1
+    sym (byte-differs _ _ (l .j) (turn .loop-test .taken) (search needs) (c .if2 .taken)) ∙ l .inv .1
 
 add-j : tie.Need-add-j Inv-loop μ-loop
 add-j c = search needs
@@ -54,23 +47,21 @@ loop-again : tie.Need-loop-again Inv-loop μ-loop
 loop-again c =
     let turn = c .before .before .before in
     let l = turn .before .loop in
-    (search needs, byte-same _ _ _ (l .j) (turn .loop-test .taken) (search needs) (c .if2 .left) ∙ l .inv .1)
+    (search needs, byte-same _ _ (l .j) (turn .loop-test .taken) (search needs) (c .if2 .left) ∙ l .inv .1)
 
 returns-3 : tie.Need-returns-3 Inv-loop μ-loop
 returns-3 c =
     let l = c .before .loop in
-    sym (no-byte _ _ _ (l .j) (c .loop-test .left)) ∙ l .inv .1
+    sym (no-byte _ _ (l .j) (c .loop-test .left)) ∙ l .inv .1
 
-pub starts-spec : {M : Type 1} → statement M
-starts-spec =
+pub begins-with-spec : {M : Type 1} → statement M
+begins-with-spec =
     tie.close
     (tie.spec
     Inv-loop
     μ-loop
-    sub-if1
     returns
     loop-holds
-    add-if2
     shared-slice-read-if2
     shared-slice-read-if2-2
     returns-2

@@ -1,19 +1,32 @@
--- `cursor::first_bad` meets its contract. The loop's invariant: the lines that are left decide what all of them decide. Assumes nothing.
+-- `cursor::past_lines` meets its contract. The loop's invariant: what is left has the stop of all. Assumes nothing.
 use mathlib.Core.Path.{_≡_, sym, _∙_}
-use Prim.Native.Nat.{_+_, _-_, _*_, _≤_}
+use Prim.Native.Nat.{_+_, _-_, _%_, _≤_}
 use borrow.Author.Needs.{needs}
 use lib.ListN.{length, drop}
-use Rattle.cursor.proofs.Lines.{good-column, bad-column, short-line, no-line}
-use Rattle.line.specs.Text.{firstBad}
-use Rattle.cursor.proofs.first_bad.Statement.{statement}
-use Rattle.cursor.proofs.first_bad.Tie as tie
+use Rattle.cursor.proofs.Lines.{line-formed}
+use Rattle.line.specs.Fault.{stop}
+use Rattle.cursor.proofs.past_lines.Statement.{statement}
+use Rattle.cursor.proofs.past_lines.Tie as tie
 
 abbrev Inv-loop : tie.InvT-loop
-Inv-loop text from before i₀ k₀ i k =
-    (i ≤ length text) × (from ≤ i) × (4 * k + from ≡ 4 * before + i) × (firstBad k (drop i text) ≡ firstBad before (drop from text))
+Inv-loop piece from before i₀ i =
+    (i ≤ length piece) × (from ≤ i) × (8 ≤ i + before) × ((i + before) % 4 ≡ 0)
+    × (stop (i + before) (drop i piece) ≡ stop (from + before) (drop from piece))
 
 abbrev μ-loop : tie.MeasureT-loop
-μ-loop text from before i₀ k₀ i k = length text - i
+μ-loop piece from before i₀ i = length piece - i
+
+add-if1 : tie.Need-add-if1 Inv-loop μ-loop
+add-if1 c = search needs
+
+returns : tie.Need-returns Inv-loop μ-loop
+returns c = search needs
+
+add-if2 : tie.Need-add-if2 Inv-loop μ-loop
+add-if2 c = search needs
+
+returns-2 : tie.Need-returns-2 Inv-loop μ-loop
+returns-2 c = search needs
 
 loop-holds : tie.Need-loop-holds Inv-loop μ-loop
 loop-holds c = search needs
@@ -48,9 +61,6 @@ is-column-requires c κs = search needs
 add-i : tie.Need-add-i Inv-loop μ-loop
 add-i c = search needs
 
-add-k : tie.Need-add-k Inv-loop μ-loop
-add-k c = search needs
-
 loop-less : tie.Need-loop-less Inv-loop μ-loop
 loop-less c = search needs
 
@@ -58,38 +68,34 @@ loop-again : tie.Need-loop-again Inv-loop μ-loop
 loop-again c =
     let said = c .before .is-column .ensures in
     let turn = c .before .before .before .before .before .before in
-    let l = turn .before .loop in
-    (search needs, search needs, search needs, good-column _ (l .i) (l .k) (turn .loop-test .taken) (sym said ∙ c .if1 .taken) ∙ l .inv .3)
-
-add-result : tie.Need-add-result Inv-loop μ-loop
-add-result c = search needs
-
-returns : tie.Need-returns Inv-loop μ-loop
-returns c =
-    let said = c .before .is-column .ensures in
-    let turn = c .before .before .before .before .before .before in
-    let l = turn .before .loop in
-    bad-column _ (l .i) (l .k) (turn .loop-test .taken) (sym said ∙ c .if1 .left) ∙ l .inv .3
-
-add-result-2 : tie.Need-add-result-2 Inv-loop μ-loop
-add-result-2 c = search needs
-
-returns-2 : tie.Need-returns-2 Inv-loop μ-loop
-returns-2 c =
-    let l = c .before .before .loop in
-    short-line _ (l .i) (l .k) (c .before .loop-test .left) (c .if2 .taken) ∙ l .inv .3
+    let l = turn .before .loop in (
+      search needs,
+      search needs,
+      search needs,
+      search needs,
+      line-formed _ (l .i) _ (turn .loop-test .taken) (l .inv .2) (l .inv .3) (sym said ∙ c .if3 .taken) ∙ l .inv .4,
+    )
 
 returns-3 : tie.Need-returns-3 Inv-loop μ-loop
 returns-3 c =
-    let l = c .before .before .loop in
-    no-line _ (l .i) (l .k) (c .if2 .left) ∙ l .inv .3
+    let l = c .before .before .before .before .before .before .before .loop in
+    (l .inv .1, l .inv .0, l .inv .4)
 
-pub first-bad-spec : {M : Type 1} → statement M
-first-bad-spec =
+returns-4 : tie.Need-returns-4 Inv-loop μ-loop
+returns-4 c =
+    let l = c .before .loop in
+    (l .inv .1, l .inv .0, l .inv .4)
+
+pub past-lines-spec : {M : Type 1} → statement M
+past-lines-spec =
     tie.close
     (tie.spec
     Inv-loop
     μ-loop
+    add-if1
+    returns
+    add-if2
+    returns-2
     loop-holds
     sub-loop
     shared-slice-read-is-column
@@ -101,11 +107,7 @@ first-bad-spec =
     shared-slice-read-is-column-4
     is-column-requires
     add-i
-    add-k
     loop-less
     loop-again
-    add-result
-    returns
-    add-result-2
-    returns-2
-    returns-3)
+    returns-3
+    returns-4)
