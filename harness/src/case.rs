@@ -3,7 +3,7 @@
 use crate::bench::bench;
 use crate::compare::{compare, describe};
 use crate::counts::Counts;
-use crate::generate::{Faults, Marks, Random};
+use crate::generate::{Marks, Provoked, Random};
 use crate::job::{marks, numbers, Job};
 use crate::jobs::JOBS;
 use crate::shrink::shrink;
@@ -65,9 +65,9 @@ struct Seeded<J> {
 
 impl<J: Job> Seeded<J> {
     fn make(name: &'static str, seed: u64, random: &mut Random) -> Box<dyn Case> {
-        let faults = Faults::draw(random, &numbers::<J>());
+        let provoked = Provoked::draw(random, &numbers::<J>());
         let mut marks = Marks::new();
-        let case = J::make(random, &faults, &mut marks);
+        let case = J::make(random, &provoked, &mut marks);
         Box::new(Seeded { name, seed, marks, case })
     }
 }

@@ -1,15 +1,15 @@
 //! What cases are made of: the same seed always gives the same.
 
 pub mod chains;
-pub mod faults;
 pub mod lists;
+pub mod provoked;
 mod random;
 pub mod recordings;
 mod rooms;
 mod rows;
 pub mod texts;
 
-pub use faults::Faults;
+pub use provoked::Provoked;
 pub use random::Random;
 pub use rooms::{room, ROOMS};
 

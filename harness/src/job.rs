@@ -2,7 +2,7 @@
 
 use crate::bench::Timed;
 use crate::counts::Counts;
-use crate::generate::{Faults, Marks, Random, ROOMS};
+use crate::generate::{Marks, Provoked, Random, ROOMS};
 use crate::jobs::Calls;
 use crate::lent::{Lent, Use};
 use model::Outcome;
@@ -22,8 +22,8 @@ pub trait Job: Fields + Clone + 'static {
         Marks::new()
     }
 
-    /// A case that provokes these faults, marked with how it was made.
-    fn make(random: &mut Random, faults: &Faults, marks: &mut Marks) -> Self;
+    /// A case that provokes these refusals, marked with how it was made.
+    fn make(random: &mut Random, provoked: &Provoked, marks: &mut Marks) -> Self;
 
     /// The call on this case, which becomes what the call leaves.
     fn call(&mut self, calls: &impl Calls) -> Outcome;

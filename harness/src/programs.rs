@@ -108,7 +108,7 @@ impl Input {
     }
 
     /// What the program has to print.
-    fn answer(&self) -> Vec<u8> {
+    fn report(&self) -> Vec<u8> {
         index(&self.stdin, self.opening.unwrap_or(0))
     }
 
@@ -119,7 +119,7 @@ impl Input {
         vec![
             (folder.join("stdin"), self.stdin.clone()),
             (folder.join("args"), args.into_bytes()),
-            (folder.join("stdout"), self.answer()),
+            (folder.join("stdout"), self.report()),
         ]
     }
 
@@ -151,15 +151,15 @@ impl Input {
     /// Whether the linked program prints what the model says and ends with 1
     /// after a refusal, with 0 after a list.
     fn agrees(&self, program: &str, random: &mut Random) -> bool {
-        let answer = self.answer();
-        let status = i32::from(answer.starts_with(b"refused"));
+        let report = self.report();
+        let status = i32::from(report.starts_with(b"refused"));
         let (printed, ended) = self.given_to(program, random);
-        if printed == answer && ended == Some(status) {
+        if printed == report && ended == Some(status) {
             return true;
         }
         let Input { name, opening, stdin } = self;
         println!("DIFFERENCE, {name}, opening column {opening:?}, {} bytes:", stdin.len());
-        println!("model:   status {status}, {}", String::from_utf8_lossy(&answer));
+        println!("model:   status {status}, {}", String::from_utf8_lossy(&report));
         println!("program: status {ended:?}, {}", String::from_utf8_lossy(&printed));
         false
     }

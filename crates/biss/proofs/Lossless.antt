@@ -5,7 +5,7 @@ use Prim.Native.Nat.{ℕ, _+_, _-_, _^_, _<_, min}
 use native.Mathlib.Omega.{arith}
 use borrow.Author.Tests.{lt-ltb, le-ltb, ltb-true, ltb-false}
 use lib.Dec.{ltb}
-use Rattle.line.specs.Limits.{slaveLimit, idCount}
+use Rattle.protocol.specs.Limits.{slaveLimit, idCount}
 use Rattle.laws.proofs.Every.{tested}
 use Rattle.job.specs.Refusals.{alone, on-line, refusal, Ending, made, refused, told}
 use Rattle.job.specs.declared.Outcome.{Outcome}
@@ -13,15 +13,15 @@ use Rattle.channels.specs.Channel.{channelOf}
 use Rattle.channels.specs.declared.SlaveId.{SlaveId}
 use Rattle.channels.specs.declared.Channel.{Channel}
 use Rattle.channels.specs.declared.Channel.the-variants as Channels
-use Rattle.biss.specs.Coded.{code, read, Fits, channelCode, Coded}
+use Rattle.biss.specs.Coded.{code, decode, Fits, channelCode, Coded}
 
-pub read-back : (e : Ending) → Fits e → read (code e) ≡ e
-unfolding code read
-read-back (made n) h = rw (lt-ltb n (2 ^ 63) h)
-read-back (refused (refusal k alone)) h =
+pub decode-code : (e : Ending) → Fits e → decode (code e) ≡ e
+unfolding code decode
+decode-code (made n) h = rw (lt-ltb n (2 ^ 63) h)
+decode-code (refused (refusal k alone)) h =
     let back : 2 ^ 63 + k - 2 ^ 63 ≡ k = omega arith in
     rw (le-ltb (2 ^ 63 + k) (2 ^ 63) (omega arith), lt-ltb (2 ^ 63 + k) (2 ^ 63 + 2 ^ 62) (omega arith), back)
-read-back (refused (refusal k (on-line l))) h =
+decode-code (refused (refusal k (on-line l))) h =
     let whole : min l (2 ^ 62 - 1) ≡ l = omega arith in
     let back : 2 ^ 63 + 2 ^ 62 + l - (2 ^ 63 + 2 ^ 62) ≡ l = omega arith in
     rw (
@@ -32,13 +32,13 @@ read-back (refused (refusal k (on-line l))) h =
       h .0,
     )
 
--- So two ends of one number are the same, and what a call answers is read as the end that its job promises.
+-- So two ends of one number are the same, and what a call returns is read as the end that its job promises.
 code-lossless : (a b : Ending) → Fits a → Fits b → code a ≡ code b → a ≡ b
-code-lossless a b h k e = sym (read-back a h) ∙ ap read e ∙ read-back b k
+code-lossless a b h k e = sym (decode-code a h) ∙ ap decode e ∙ decode-code b k
 
-pub read-call : {answer : ℕ} {Promised : Outcome → Type 0} (call : Coded answer Promised) → Fits (told (call .end))
-    → read answer ≡ told (call .end)
-read-call call h = ap read (call .coded) ∙ read-back (told (call .end)) h
+pub decode-call : {returned : ℕ} {Promised : Outcome → Type 0} (call : Coded returned Promised) → Fits (told (call .end))
+    → decode returned ≡ told (call .end)
+decode-call call h = ap decode (call .coded) ∙ decode-code (told (call .end)) h
 
 -- A channel has its room where its place is not 0, which stands for none, and its refusal as above ..
 abbrev Held : Channel → Type 0
@@ -58,7 +58,7 @@ channel-lossless (Channels.Refused n) (Channels.Place q) h k e = absurd (omega a
 channel-lossless (Channels.Refused n) Channels.Absent h k e = absurd (omega arith)
 channel-lossless (Channels.Refused n) (Channels.Refused m) h k e = let same : n ≡ m = omega arith in ap Channels.Refused same
 
--- .. as every channel that is answered has.
+-- .. as every channel that is returned has.
 channel-held : (id : SlaveId) (slaves : ℕ) → Held (channelOf id slaves)
 unfolding channelOf
 channel-held id slaves =

@@ -8,14 +8,14 @@ use Prim.Native.Nat.{ℕ, _^_, _≤_, _<_}
 use native.Mathlib.Omega.{arith}
 use borrow.Author.Tests.{ltb-false}
 use lib.ListN.{length}
-use Rattle.line.specs.Limits.{columnLimit}
-use Rattle.line.specs.Building.{Request}
-use Rattle.line.specs.Layout.{current, listBytes, entriesIn}
-use Rattle.line.specs.Text.{rowsText, cdmOf, listText}
-use Rattle.line.specs.Fault.{textFault, faultLine}
+use Rattle.protocol.specs.Limits.{columnLimit}
+use Rattle.protocol.specs.Building.{Request}
+use Rattle.protocol.specs.Layout.{current, listBytes, entriesIn}
+use Rattle.protocol.specs.Text.{rowsText, cdmOf, listText}
+use Rattle.protocol.specs.Fault.{textFault, faultLine}
 use Rattle.laws.proofs.Every.{IfAny}
-use Rattle.line.proofs.Codec.{length-list}
-use Rattle.line.proofs.Fault.{line-low}
+use Rattle.protocol.proofs.Codec.{length-list}
+use Rattle.protocol.proofs.Fault.{line-low}
 use Rattle.job.specs.Refusals.{Refusal, Rule, when, found, first, refused, ending, told, Lent, Ended}
 use Rattle.job.specs.Rows.{rowRules, wrongRow, wrongRows}
 use Rattle.job.specs.declared.Outcome.{Outcome}
@@ -26,8 +26,8 @@ use Rattle.run.specs.Run as Run
 use Rattle.run.specs.Run.{Ran}
 use Rattle.read.specs.Read as Read
 use Rattle.read.specs.Read.{listOf, Listed}
-use Rattle.entries.specs.Lists.{listRefusals, ListPrinted}
-use Rattle.carry.specs.Carry.{rowsRefusals, badForm, textRoom, textRefusals, RowsPrinted, RowsTaken}
+use Rattle.list_text.specs.Lists.{listRefusals, ListPrinted}
+use Rattle.rows_text.specs.RowsText.{rowsRefusals, badForm, textRoom, textRefusals, RowsPrinted, RowsTaken}
 use Rattle.biss.specs.Coded.{Fits}
 
 -- Every refusal that some rules can give has room ..
@@ -45,27 +45,27 @@ ending-fits (when false n ∷ rules) count r h = ending-fits rules count (r .1) 
 ending-fits (found label none ∷ rules) count r h = ending-fits rules count (r .1) h
 ending-fits (found label (some q) ∷ rules) count r h = r .0
 
-end-fits : {rules : List Rule} {count : ℕ} {buffers : List Lent} {answer : Outcome} {after : List (List ℕ)}
-    → Ended rules count buffers answer after → Roomy rules → (first rules ≡ none → count < 2 ^ 63) → Fits (told answer)
-end-fits {rules} {count} ended r h = rw (ended .answers) (ending-fits rules count r h)
+end-fits : {rules : List Rule} {count : ℕ} {buffers : List Lent} {outcome : Outcome} {after : List (List ℕ)}
+    → Ended rules count buffers outcome after → Roomy rules → (first rules ≡ none → count < 2 ^ 63) → Fits (told outcome)
+end-fits {rules} {count} ended r h = rw (ended .tells) (ending-fits rules count r h)
 
 -- So the end of build, run and read, ..
-pub built-fits : {r : Request} {out : List ℕ} {answer : Outcome} {after : List ℕ} → Built r out answer after → length out < 2 ^ 63
-    → Fits (told answer)
+pub built-fits : {r : Request} {out : List ℕ} {outcome : Outcome} {after : List ℕ} → Built r out outcome after → length out < 2 ^ 63
+    → Fits (told outcome)
 unfolding Build.refusals
 built-fits {r} {out} built h =
     end-fits (built .ends) (omega arith)
     (λ e. let fits : length (Build.made r) ≤ length out = ltb-false _ _ (no 9 _ e) in omega arith)
 
-pub ran-fits : {slaves : ℕ} {rights registers cdm cds : List ℕ} {answer : Outcome} {registers′ cds′ : List ℕ}
-    → Ran slaves rights registers cdm cds answer registers′ cds′ → Fits (told answer)
+pub ran-fits : {slaves : ℕ} {rights registers cdm cds : List ℕ} {outcome : Outcome} {registers′ cds′ : List ℕ}
+    → Ran slaves rights registers cdm cds outcome registers′ cds′ → Fits (told outcome)
 unfolding Run.refusals wrongRow rowRules
 ran-fits {cdm} ran =
     end-fits (ran .ends) (omega arith)
     (λ e. let short : length cdm ≤ columnLimit = ltb-false _ _ (no-either _ _ (no 5 _ e) .0) in omega arith)
 
-pub listed-fits : {cdm cds : List ℕ} {k : ℕ} {out : List ℕ} {answer : Outcome} {after : List ℕ} → Listed cdm cds k out answer after
-    → length out < 2 ^ 63 → Fits (told answer)
+pub listed-fits : {cdm cds : List ℕ} {k : ℕ} {out : List ℕ} {outcome : Outcome} {after : List ℕ} → Listed cdm cds k out outcome after
+    → length out < 2 ^ 63 → Fits (told outcome)
 unfolding Read.refusals Read.rowsRefusals wrongRows rowRules
 listed-fits {cdm} {cds} {k} {out} listed h =
     let list = listOf k cdm cds in
@@ -73,15 +73,15 @@ listed-fits {cdm} {cds} {k} {out} listed h =
     (λ e. let fits : length (listBytes current list) ≤ length out = ltb-false _ _ (no 9 _ e) in omega (arith, length-list current list))
 
 -- .. and of carry.
-pub rows-printed-fits : (cdm cds : List ℕ) {out : List ℕ} {answer : Outcome} {after : List ℕ} → RowsPrinted cdm cds out answer after
-    → length out < 2 ^ 63 → Fits (told answer)
+pub rows-printed-fits : (cdm cds : List ℕ) {out : List ℕ} {outcome : Outcome} {after : List ℕ} → RowsPrinted cdm cds out outcome after
+    → length out < 2 ^ 63 → Fits (told outcome)
 unfolding rowsRefusals wrongRows rowRules
 rows-printed-fits cdm cds {out} printed h =
     end-fits printed (omega arith)
     (λ e. let fits : length (rowsText cdm cds) ≤ length out = ltb-false _ _ (no 9 _ e) in omega arith)
 
-pub list-printed-fits : (list : List ℕ) {out : List ℕ} {answer : Outcome} {after : List ℕ} → ListPrinted list out answer after
-    → length out < 2 ^ 63 → Fits (told answer)
+pub list-printed-fits : (list : List ℕ) {out : List ℕ} {outcome : Outcome} {after : List ℕ} → ListPrinted list out outcome after
+    → length out < 2 ^ 63 → Fits (told outcome)
 unfolding listRefusals
 list-printed-fits list {out} printed h =
     end-fits printed (omega arith) (λ e. let fits : length (listText (entriesIn current list)) ≤ length out = ltb-false _ _ (no 9 _ e) in omega arith)
@@ -90,8 +90,8 @@ form-fits : (fault : Option ℕ) → faultLine fault < 2 ^ 62 → IfAny (λ (r :
 form-fits none h = tt
 form-fits (some at) h = (refl, h)
 
-pub taken-fits : {text cdm cds : List ℕ} {answer : Outcome} {cdm′ cds′ : List ℕ} → RowsTaken text cdm cds answer cdm′ cds′
-    → length text < 2 ^ 63 → Fits (told answer)
+pub taken-fits : {text cdm cds : List ℕ} {outcome : Outcome} {cdm′ cds′ : List ℕ} → RowsTaken text cdm cds outcome cdm′ cds′
+    → length text < 2 ^ 63 → Fits (told outcome)
 unfolding textRefusals textRoom
 taken-fits {text} taken h =
     end-fits (taken .ends) (form-fits (textFault text) (omega (arith, line-low text)), omega arith)

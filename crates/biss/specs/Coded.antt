@@ -20,11 +20,11 @@ code (refused (refusal number alone)) = 2 ^ 63 + number
 code (refused (refusal number (on-line line))) = 2 ^ 63 + 2 ^ 62 + min line (2 ^ 62 - 1)
 
 -- .. and back, by the bits 63 and 62.
-unfoldable pub read : ℕ → Ending
-read answer =
-    cond (ltb answer (2 ^ 63)) (made answer)
-    (cond (ltb answer (2 ^ 63 + 2 ^ 62)) (refused (refusal (answer - 2 ^ 63) alone))
-    (refused (refusal lineNumber (on-line (answer - (2 ^ 63 + 2 ^ 62))))))
+unfoldable pub decode : ℕ → Ending
+decode returned =
+    cond (ltb returned (2 ^ 63)) (made returned)
+    (cond (ltb returned (2 ^ 63 + 2 ^ 62)) (refused (refusal (returned - 2 ^ 63) alone))
+    (refused (refusal lineNumber (on-line (returned - (2 ^ 63 + 2 ^ 62))))))
 
 -- What each part of a code has room for: a count and a refusal below the bit that the next one stands on, a line below 2 ^ 62.
 abbrev pub Fits : Ending → Type 0
@@ -38,8 +38,8 @@ channelCode (Channels.Place place) = place .0
 channelCode Channels.Absent = 0
 channelCode (Channels.Refused number) = code (refused (refusal number alone))
 
--- The number answered is that of an end that the job promises.
-pub record Coded (answer : ℕ) (Promised : Outcome → Type 0) : Type 0 where
+-- The number returned is that of an end that the job promises.
+pub record Coded (returned : ℕ) (Promised : Outcome → Type 0) : Type 0 where
   pub end : Outcome
-  pub coded : answer ≡ code (told end)
+  pub coded : returned ≡ code (told end)
   pub promised : Promised end

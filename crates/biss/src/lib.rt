@@ -1,16 +1,16 @@
-// The jobs as C and Rust call them: numbers, and a slice as a pointer and a length. Each answers one number: how many columns, bytes
+// The jobs as C and Rust call them: numbers, and a slice as a pointer and a length. Each returns one number: how many columns, bytes
 // or entries were made, or 2 ^ 63 and the number of the refusal; for a text's bad line, 2 ^ 63 + 2 ^ 62 and the line. Beside them the
 // channel place of a slave.
 ghost use mathlib.Core.Path.{_≡_};
 ghost use Prim.Native.Nat.{_≤_, min};
-ghost use Rattle.line.specs.Building.{Request};
+ghost use Rattle.protocol.specs.Building.{Request};
 ghost use Rattle.channels.specs.Channel.{channelOf};
 ghost use Rattle.job.specs.Refusals.{refusal, refused, detail, told};
 ghost use Rattle.build.specs.Build.{Built};
 ghost use Rattle.run.specs.Run.{Ran};
 ghost use Rattle.read.specs.Read.{Listed};
-ghost use Rattle.carry.specs.Carry.{RowsPrinted, RowsTaken};
-ghost use Rattle.entries.specs.Lists.{ListPrinted};
+ghost use Rattle.rows_text.specs.RowsText.{RowsPrinted, RowsTaken};
+ghost use Rattle.list_text.specs.Lists.{ListPrinted};
 ghost use Rattle.biss.specs.Coded.{code, channelCode, Coded};
 use channels::Channel;
 use channels::SlaveId;
@@ -77,7 +77,7 @@ pub extern "C" fn biss_read(cdm: &[u8], cds: &[u8], opening: usize, out: &mut [u
 pub extern "C" fn biss_rows_to_text(cdm: &[u8], cds: &[u8], out: &mut [u8]) -> u64
     ensures { λ r. ⌜ Coded r (λ o. RowsPrinted (now (cdm .entry)) (now (cds .entry)) (now (out .entry)) o (now (out .exit))) ⌝ }
 {
-    coded(carry::rows_to_text(cdm, cds, out))
+    coded(rows_text::rows_to_text(cdm, cds, out))
 }
 
 // The two rows of a text.
@@ -85,7 +85,7 @@ pub extern "C" fn biss_rows_to_text(cdm: &[u8], cds: &[u8], out: &mut [u8]) -> u
 pub extern "C" fn biss_text_to_rows(text: &[u8], cdm: &mut [u8], cds: &mut [u8]) -> u64
     ensures { λ r. ⌜ Coded r (λ o. RowsTaken (now (text .entry)) (now (cdm .entry)) (now (cds .entry)) o (now (cdm .exit)) (now (cds .exit))) ⌝ }
 {
-    coded(carry::text_to_rows(text, cdm, cds))
+    coded(rows_text::text_to_rows(text, cdm, cds))
 }
 
 // A list of entries as text.
@@ -93,7 +93,7 @@ pub extern "C" fn biss_text_to_rows(text: &[u8], cdm: &mut [u8], cds: &mut [u8])
 pub extern "C" fn biss_list_to_text(list: &[u8], out: &mut [u8]) -> u64
     ensures { λ r. ⌜ Coded r (λ o. ListPrinted (now (list .entry)) (now (out .entry)) o (now (out .exit))) ⌝ }
 {
-    coded(entries::list_to_text(list, out))
+    coded(list_text::list_to_text(list, out))
 }
 
 // The place of a slave's process data in a chain of so many slaves.

@@ -8,8 +8,8 @@ use native.Mathlib.Numerals.{add-one}
 use native.Mathlib.Omega.{arith}
 use lib.ListN.{length, length-map, set}
 use lib.Seq.{sets}
-use Rattle.line.specs.Bits.{num, bits}
-use Rattle.line.proofs.Words.{num-bit, length-bits}
+use Rattle.protocol.specs.Bits.{num, bits}
+use Rattle.protocol.proofs.Words.{num-bit, length-bits}
 use Rattle.job.proofs.Laid.{sets-append}
 
 -- The highest of the bits that are left, laid, and then the rest ..
@@ -26,10 +26,10 @@ unfolding bits
 none-laid out p zero w h = refl
 none-laid out p (suc n) w h = absurd (omega arith)
 
--- A run of bits laid, and then what follows it.
-pub run-laid : (out : List ℕ) (p n w : ℕ) (rest whole : List Bool) → bits n w ++ rest ≡ whole
+-- A part of the bits laid, and then what follows it.
+pub part-laid : (out : List ℕ) (p n w : ℕ) (rest whole : List Bool) → bits n w ++ rest ≡ whole
     → sets (sets out p (map num (bits n w))) (p + n) (map num rest) ≡ sets out p (map num whole)
-run-laid out p n w rest whole e =
+part-laid out p n w rest whole e =
     let long : length (map num (bits n w)) ≡ n = length-map (bits n w) num ∙ length-bits n w in
     ap (λ (k : ℕ). sets (sets out p (map num (bits n w))) (p + k) (map num rest)) (sym long)
     ∙ sym (sets-append out p (map num (bits n w)) (map num rest))

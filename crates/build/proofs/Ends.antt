@@ -7,9 +7,9 @@ use Prim.Native.Nat.{ℕ, _+_, _*_, _≤_, _<_}
 use borrow.Author.Tests.{lt-ltb, le-ltb, ltb-false, eq-eqb, ne-eqb}
 use lib.ListN.{length}
 use lib.Seq.{sets, length-sets}
-use Rattle.line.specs.Bits.{num, bits}
-use Rattle.line.specs.Header.{accessWord}
-use Rattle.line.specs.Building.{Request, read, write, command, readBytes, writeBytes}
+use Rattle.protocol.specs.Bits.{num, bits}
+use Rattle.protocol.specs.Header.{accessWord}
+use Rattle.protocol.specs.Building.{Request, read, write, command, readBytes, writeBytes}
 use Rattle.job.specs.Refusals.{first, given}
 use Rattle.job.specs.declared.Outcome.the-variants.{Made, Refused}
 use Rattle.job.specs.declared.Detail.the-variants.{Alone}

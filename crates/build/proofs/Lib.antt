@@ -1,5 +1,5 @@
 -- What is proved of build, beside the proofs of its functions: bits as columns, the rows by their parts, what refusal 10 lets through,
--- the two ends of a call, and that its promise has one answer.
+-- the two ends of a call, and that its promise has one result.
 pub mod Columns
 pub mod Rows
 pub mod Requests

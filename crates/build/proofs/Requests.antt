@@ -4,7 +4,7 @@ use mathlib.Core.Bool.{Bool, false, _||_}
 use Prim.Native.Nat.{ℕ, _+_, _-_, _≤_}
 use borrow.Author.Tests.{ltb-false, eqb-false}
 use lib.Dec.{ltb, eqb}
-use Rattle.line.specs.Limits.{idCount, registerCount, byteLimit}
+use Rattle.protocol.specs.Limits.{idCount, registerCount, byteLimit}
 use Rattle.job.proofs.Refusals.{no-either}
 use Rattle.build.specs.Build.{outsideAccess}
 

@@ -9,11 +9,11 @@ use native.Mathlib.Numerals.{add-one, sub-one}
 use native.Mathlib.Omega.{arith}
 use lib.ListN.{length, length-append, length-map, getD, drop, drop-of-length-le}
 use lib.Seq.{drop-cons, sets}
-use Rattle.line.specs.Bits.{num, bit, bits}
-use Rattle.line.specs.Division.{headerBits, dataBits, check, word}
-use Rattle.line.specs.Header.{accessWord, commandWord}
-use Rattle.line.specs.Building.{Request, read, write, command, readBytes, writeBytes, frameOf, rowFor}
-use Rattle.line.proofs.Words.{bits-append, length-bits, word-lt}
+use Rattle.protocol.specs.Bits.{num, bit, bits}
+use Rattle.protocol.specs.Division.{headerBits, dataBits, check, word}
+use Rattle.protocol.specs.Header.{accessWord, commandWord}
+use Rattle.protocol.specs.Building.{Request, read, write, command, readBytes, writeBytes, frameOf, rowFor}
+use Rattle.protocol.proofs.Words.{bits-append, length-bits, word-lt}
 use Rattle.job.proofs.Laid.{sets-append}
 use Rattle.build.specs.Build.{made}
 use Rattle.build.specs.Parts.{lead}

@@ -1,8 +1,8 @@
--- The promise of build has one answer: two results that meet it are equal, in what is answered and in every lent byte. Assumes nothing.
+-- The promise of build has one result: two results that meet it are equal, in what is returned and in every lent byte. Assumes nothing.
 use mathlib.Core.Path.{_≡_}
 use mathlib.Core.List.{List}
 use Prim.Native.Nat.{ℕ}
-use Rattle.line.specs.Building.{Request}
+use Rattle.protocol.specs.Building.{Request}
 use Rattle.job.specs.declared.Outcome.{Outcome}
 use Rattle.job.proofs.Refusals.{ended-unique}
 use Rattle.build.specs.Build.{Built}

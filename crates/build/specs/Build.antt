@@ -1,12 +1,12 @@
--- The job build: when it refuses, and what it makes. The rows themselves are line's (specs/Building).
+-- The job build: when it refuses, and what it makes. The rows themselves are protocol's (specs/Building).
 use mathlib.Core.Bool.{Bool, _||_}
 use mathlib.Core.List.{List, [], _∷_, map}
 use Prim.Native.Nat.{ℕ, _+_, _-_}
 use lib.Dec.{ltb, eqb}
 use lib.ListN.{length}
-use Rattle.line.specs.Limits.{idCount, registerCount, byteLimit}
-use Rattle.line.specs.Bits.{num}
-use Rattle.line.specs.Building.{Request, read, write, command, rowFor}
+use Rattle.protocol.specs.Limits.{idCount, registerCount, byteLimit}
+use Rattle.protocol.specs.Bits.{num}
+use Rattle.protocol.specs.Building.{Request, read, write, command, rowFor}
 use Rattle.job.specs.Refusals.{Rule, when, lent, Ended}
 use Rattle.job.specs.declared.Outcome.{Outcome}
 
@@ -30,6 +30,6 @@ made r = map num (rowFor r)
 unfoldable pub refusals : Request → (room : ℕ) → List Rule
 refusals r room = when (outside r) 10 ∷ when (ltb room (length (made r))) 9 ∷ []
 
--- What build answers to a request, in columns, and what it leaves in the lent row.
-pub record Built (r : Request) (out : List ℕ) (answer : Outcome) (after : List ℕ) : Type 0 where
-  pub ends : Ended (refusals r (length out)) (length (made r)) (lent (made r) out ∷ []) answer (after ∷ [])
+-- What build returns to a request, in columns, and what it leaves in the lent row.
+pub record Built (r : Request) (out : List ℕ) (outcome : Outcome) (after : List ℕ) : Type 0 where
+  pub ends : Ended (refusals r (length out)) (length (made r)) (lent (made r) out ∷ []) outcome (after ∷ [])

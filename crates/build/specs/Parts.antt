@@ -6,16 +6,16 @@ use Prim.Native.Nat.{ℕ, _+_, _*_}
 use lib.Dec.{ltb, eqb}
 use lib.ListN.{length, replicate}
 use lib.Seq.{sets}
-use Rattle.line.specs.Limits.{restZeros}
-use Rattle.line.specs.Bits.{num, bits}
-use Rattle.line.specs.Header.{accessWord}
-use Rattle.line.specs.Building.{opening}
+use Rattle.protocol.specs.Limits.{restZeros}
+use Rattle.protocol.specs.Bits.{num, bits}
+use Rattle.protocol.specs.Header.{accessWord}
+use Rattle.protocol.specs.Building.{frameHead}
 use Rattle.job.specs.Refusals.{Rule, when, first, given}
 use Rattle.build.specs.Build.{outsideAccess}
 
 -- Fourteen zeros, S and the header.
 unfoldable pub lead : ℕ → List Bool
-lead header = replicate restZeros false ++ opening header
+lead header = replicate restZeros false ++ frameHead header
 
 -- Building: "Reading n bytes takes 32 + 14n columns, writing n lent bytes likewise".
 unfoldable pub accessRefusals : (id address count room : ℕ) → List Rule

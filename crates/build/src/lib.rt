@@ -1,14 +1,14 @@
-// The job build: a master row for one request, fourteen zeros and one frame. Each call answers Made with the number of columns, or
+// The job build: a master row for one request, fourteen zeros and one frame. Each call returns Made with the number of columns, or
 // Refused with 10 or 9 and the lent row as it was.
 ghost use mathlib.Core.Path.{_≡_};
 ghost use mathlib.Core.List.{map, _++_};
 ghost use Prim.Native.Nat.{_+_, _*_, _^_, _≤_, _<_};
 ghost use lib.ListN.{length};
 ghost use lib.Seq.{sets};
-ghost use Rattle.line.specs.Bits.{num, bits};
-ghost use Rattle.line.specs.Division.{headerBits, dataBits, check, word};
-ghost use Rattle.line.specs.Building.{Request, readBytes, writeBytes};
-ghost use Rattle.line.specs.Header.{accessWord};
+ghost use Rattle.protocol.specs.Bits.{num, bits};
+ghost use Rattle.protocol.specs.Division.{headerBits, dataBits, check, word};
+ghost use Rattle.protocol.specs.Building.{Request, readBytes, writeBytes};
+ghost use Rattle.protocol.specs.Header.{accessWord};
 ghost use Rattle.job.specs.Refusals.{first, given};
 ghost use Rattle.build.specs.Build.{outsideAccess, Built};
 ghost use Rattle.build.specs.Parts.{accessRefusals, lead, Begun};
@@ -77,12 +77,12 @@ pub fn build_command(ids: u8, cmd: u8, out: &mut [u8]) -> Outcome
     if out.len() < COMMAND {
         return Outcome::Refused(9, Detail::Alone);
     }
-    let start = opening(ids as u16 * 4 + cmd as u16);
+    let start = frame_head(ids as u16 * 4 + cmd as u16);
     let n = put_bits(out, 0, COMMAND, start);
     Outcome::Made(n)
 }
 
-// Answers why a register access of so many bytes is refused; where it is not, answers 0 and puts its first 32 columns.
+// Returns why a register access of so many bytes is refused; where it is not, returns 0 and puts its first 32 columns.
 fn begin(out: &mut [u8], id: u8, address: u8, count: usize, way: u64) -> u8
     requires { ⌜ way < 4 ⌝ }
     ensures { λ r. ⌜ Begun id address count way (now (out .entry)) r (now (out .exit)) ⌝ }
@@ -126,17 +126,17 @@ fn outside(id: u8, address: u8, count: usize) -> bool
     REGISTERS < end
 }
 
-// Fourteen zeros, S, the header, R and W, which are the two bits of `way`; answers the column behind them.
+// Fourteen zeros, S, the header, R and W, which are the two bits of `way`; returns the column behind them.
 fn put_access(out: &mut [u8], id: u8, address: u8, way: u64) -> usize
     requires { ⌜ (32 ≤ length (now out)) × (id < 8) × (address < 128) × (way < 4) ⌝ }
     ensures { λ r. ⌜ (r ≡ 32) × (now (out .exit) ≡ sets (now (out .entry)) 0 (map num (lead (accessWord id address) ++ bits 2 way))) ⌝ }
 {
-    let start = opening(1024 + id as u16 * 128 + address as u16);
+    let start = frame_head(1024 + id as u16 * 128 + address as u16);
     put_bits(out, 0, ACCESS, 4 * start + way)
 }
 
 // S and the header of eleven bits with their check, as one number of sixteen bits.
-fn opening(header: u16) -> u64
+fn frame_head(header: u16) -> u64
     requires { ⌜ header < 2048 ⌝ }
     ensures { λ r. ⌜ (r ≡ 2 ^ 15 + word headerBits header) × (r < 2 ^ 16) ⌝ }
 {
@@ -178,7 +178,7 @@ fn written(b: u8) -> u64
     BYTE_START + 32 * b as u64 + 2 * checkbits::byte_check(b) as u64
 }
 
-// Puts the lowest n bits of w at `at`, highest first, a column each, and answers the column behind them.
+// Puts the lowest n bits of w at `at`, highest first, a column each, and returns the column behind them.
 fn put_bits(out: &mut [u8], at: usize, n: usize, w: u64) -> usize
     requires { ⌜ (at + n ≤ length (now out)) × (n ≤ 32) ⌝ }
     ensures { λ r. ⌜ (r ≡ at + n) × (now (out .exit) ≡ sets (now (out .entry)) at (map num (bits n w))) ⌝ }

@@ -1,9 +1,9 @@
--- What channel_of answers.
+-- What channel_of returns.
 use mathlib.Core.Bool.{cond}
 use Prim.Native.Nat.{ℕ, _+_, _-_}
 use lib.Dec.{ltb}
-use Rattle.line.specs.Limits.{slaveLimit, idCount}
-use Rattle.line.specs.Channels.{reversed}
+use Rattle.protocol.specs.Limits.{slaveLimit, idCount}
+use Rattle.protocol.specs.Channels.{reversed}
 use Rattle.channels.specs.declared.SlaveId.{SlaveId}
 use Rattle.channels.specs.declared.ChannelPlace.{ChannelPlace}
 use Rattle.channels.specs.declared.Channel.{Channel}

@@ -9,9 +9,9 @@ use borrow.Author.Tests.{eqb-true}
 use lib.Bits.{bitXor, xor-mod}
 use lib.Dec.{eqb}
 use lib.Pow.{high, low, split}
-use Rattle.line.specs.Bits.{bit}
-use Rattle.line.specs.Division.{headerBits, checkWidth, polynomial, feed, divide, remainder}
-use Rattle.line.proofs.Division.{divide-low, divide-append}
+use Rattle.protocol.specs.Bits.{bit}
+use Rattle.protocol.specs.Division.{headerBits, checkWidth, polynomial, divideBit, divide, remainder}
+use Rattle.protocol.proofs.Division.{divide-low, divide-append}
 use Rattle.laws.proofs.Table.{below}
 
 -- Four bits into a remainder: what remains then stands at the place of both together, added bit by bit.
@@ -19,7 +19,7 @@ stands : (r b : ℕ) → Bool
 stands r b = eqb (2398146510454543920 / 2 ^ (4 * bitXor r b) % 16) (divide checkWidth polynomial checkWidth b r)
 
 all-stand : (k : ℕ) → k < 256 → stands (k / 16) (k % 16) ≡ true
-unfolding stands divide feed bit
+unfolding stands divide divideBit bit
 all-stand k h = below 256 (λ k. stands (k / 16) (k % 16)) refl k h
 
 pub four-at : (r b : ℕ) → r < 16
@@ -43,7 +43,7 @@ four-more n v =
 
 -- .. three bits are four with a 0 before them ..
 three : (v : ℕ) → remainder checkWidth (v % 8) ≡ remainder 3 v
-unfolding remainder divide feed bit
+unfolding remainder divide divideBit bit
 three v =
     eqb-true _ _ (below 8 (λ k. eqb (remainder checkWidth k) (remainder 3 k)) refl (v % 8) (omega arith))
     ∙ divide-low checkWidth polynomial 3 (v % 8) v 0 (mod-mod v 8)

@@ -1,4 +1,4 @@
--- A division four bits at a time, how words are collected, and that each promise of this crate has one answer.
+-- A division four bits at a time, how words are collected, and that each promise of this crate has one result.
 mod Fours
 mod Words
 mod Unique

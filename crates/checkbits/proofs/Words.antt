@@ -4,7 +4,7 @@ use mathlib.Core.Bool.{Bool, true, false}
 use Prim.Native.Nat.{ℕ, _+_, _*_, _%_, _<_}
 use native.Mathlib.Omega.{arith}
 use mir.Val.{boolByte}
-use Rattle.line.specs.Bits.{push}
+use Rattle.protocol.specs.Bits.{push}
 
 pub bool-lt : (b : Bool) → boolByte b < 2
 bool-lt true = omega arith

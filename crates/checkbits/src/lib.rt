@@ -4,8 +4,8 @@ mod table;
 
 ghost use mathlib.Core.Path.{_≡_};
 ghost use Prim.Native.Nat.{_<_};
-ghost use Rattle.line.specs.Division.{headerBits, dataBits, checkWidth, polynomial, divide, check, fits};
-ghost use Rattle.line.specs.Bits.{push};
+ghost use Rattle.protocol.specs.Division.{headerBits, dataBits, checkWidth, polynomial, divide, check, fits};
+ghost use Rattle.protocol.specs.Bits.{push};
 use table::CHECKS;
 
 // The remainders of the sixteen words of four bits, four bits each, that of 0 lowest.

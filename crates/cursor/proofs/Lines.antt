@@ -10,11 +10,11 @@ use borrow.Author.Tests.{le-ltb, lt-ltb, eq-eqb, ne-eqb}
 use lib.Dec.{eqb}
 use lib.ListN.{length, take, drop, getD, length-drop, length-map, drop-of-length-le}
 use lib.Seq.{take-all, drop-cons, drop-drop}
-use Rattle.line.specs.Text.{rowsHeader, exactly, bit, has, headerForm, columnForm, begins}
-use Rattle.line.specs.Fault.{formAt, stop, isFault}
+use Rattle.protocol.specs.Text.{rowsHeader, exactly, bit, has, headerForm, columnForm, begins}
+use Rattle.protocol.specs.Fault.{formAt, stop, isBreach}
 use Rattle.laws.proofs.Every.{tested}
-use Rattle.line.proofs.Text.{four, begins-long}
-use Rattle.line.proofs.Fault.{stop-low, stop-again, header-forms, column-forms, through}
+use Rattle.protocol.proofs.Text.{four, begins-long}
+use Rattle.protocol.proofs.Fault.{stop-low, stop-again, header-forms, column-forms, through}
 
 -- The form of a line of given bytes, from its byte j on: decided by that byte, or by those behind it, or by none.
 module _ (line text : List ℕ) (j : ℕ) where
@@ -68,7 +68,7 @@ module _ (piece : List ℕ) (i before : ℕ) where
       let there : begins columnForm (drop i piece) ≡ true = rw (four piece i h) q in
       sym (through columnForm (i + before) (column-forms (i + before) low start) (drop i piece) there ∙ rw (on, drop-drop))
 
--- .. and so does a whole header.
+-- The start of a piece, and behind a whole header.
 pub nowhere : (piece : List ℕ) (before : ℕ) → (0 ≤ length piece) × (stop (0 + before) (drop 0 piece) ≡ stop before piece)
 nowhere piece before = (omega arith, rw zero-add)
 
@@ -118,10 +118,10 @@ digit-form (suc (suc (suc zero))) h k = absurd (k refl)
 digit-form (suc (suc (suc (suc i)))) h k = refl
 
 -- Below the header a text may end at a line's start.
-pub end-fault : (at : ℕ) → 8 ≤ at → not (eqb (at % 4) 0) ≡ isFault at at
+pub end-fault : (at : ℕ) → 8 ≤ at → not (eqb (at % 4) 0) ≡ isBreach at at
 end-fault at h =
     let same : (at - 8) % 4 ≡ at % 4 = omega arith in
     rw (eq-eqb at at refl, le-ltb at 8 h, same, ne-eqb at 0 (omega arith), and-true)
 
-pub not-end : (at end : ℕ) → (at ≡ end → ⊥) → true ≡ isFault at end
+pub not-end : (at end : ℕ) → (at ≡ end → ⊥) → true ≡ isBreach at end
 not-end at end h = rw (ne-eqb at end h)

@@ -1,4 +1,4 @@
--- What an accepted run leaves: its answer row, that its two rows are rows to read, and what line demands of their list.
+-- What an accepted run leaves: its answer row, that its two rows are rows to read, and what protocol demands of their list.
 -- Assumes nothing.
 use mathlib.Core.Path.{_≡_, refl, sym, ap, _∙_}
 use mathlib.Core.Bool.{true}
@@ -7,16 +7,16 @@ use mathlib.Core.Option.{none}
 use Prim.Native.Nat.{ℕ, _*_, _≤_}
 use native.Mathlib.Omega.{arith}
 use lib.ListN.{length, length-map}
-use Rattle.line.specs.Bits.{num, bitOf, rowOf}
-use Rattle.line.specs.Memory.{Memory}
-use Rattle.line.specs.Chain.{switchedOn, answersFrom, memoriesAfter}
-use Rattle.line.specs.Reader.{columns, listFrom}
-use Rattle.line.specs.Account.{account}
-use Rattle.line.specs.Replay.{replay, Shows}
-use Rattle.line.proofs.Memories.{Bytes}
-use Rattle.line.proofs.Rows.{answers-length}
-use Rattle.line.proofs.Demands as line
-use Rattle.job.specs.Refusals.{first, lent, left}
+use Rattle.protocol.specs.Bits.{num, bitOf, rowOf}
+use Rattle.protocol.specs.Memory.{Memory}
+use Rattle.protocol.specs.Chain.{switchedOn, answersFrom, memoriesAfter}
+use Rattle.protocol.specs.Reader.{columns, listFrom}
+use Rattle.protocol.specs.Account.{account}
+use Rattle.protocol.specs.Replay.{replay, Shows}
+use Rattle.protocol.proofs.Memories.{Bytes}
+use Rattle.protocol.proofs.Rows.{answers-length}
+use Rattle.protocol.proofs.Demands as protocol
+use Rattle.job.specs.Refusals.{first, lent, lentAfter}
 use Rattle.job.specs.Rows.{wrongRows}
 use Rattle.job.specs.declared.Outcome.the-variants.{Made}
 use Rattle.job.proofs.Bits.{num-bits}
@@ -26,8 +26,8 @@ use Rattle.run.specs.Run.{memoriesOf, registersOf, refusals, Ran}
 use Rattle.run.proofs.Rows.{row-num}
 use Rattle.run.proofs.Ends.{held, short-row, same-rows, master-bits}
 use Rattle.read.specs.Read as Read
-use Rattle.line.specs.Layout.{current, entryBytes}
-use Rattle.line.proofs.Codec.{length-list}
+use Rattle.protocol.specs.Layout.{current, entryBytes}
+use Rattle.protocol.proofs.Codec.{length-list}
 use Rattle.read.specs.Read.{rowsRefusals, listOf}
 use Rattle.read.proofs.Left.{length-listed}
 use Rattle.read.proofs.Ends.{rows-good, not-refused}
@@ -51,8 +51,8 @@ module _ {slaves c : ℕ} {rights registers cdm cds registers′ cds′ : List �
   -- The lent answer row holds the chain's answers, and nothing else.
   pub row-bytes : cds′ ≡ map num (answersFrom chain (rowOf cdm))
   row-bytes =
-      let left-row : cds′ ≡ left none (lent (map num (answersFrom chain (rowOf cdm))) cds) = cc (was-made (ran .ends) .2) in
-      left-row ∙ sym (laid-whole _ cds (answers-long ∙ sym (same-rows slaves registers rights cdm cds through)))
+      let row-after : cds′ ≡ lentAfter none (lent (map num (answersFrom chain (rowOf cdm))) cds) = cc (was-made (ran .ends) .2) in
+      row-after ∙ sym (laid-whole _ cds (answers-long ∙ sym (same-rows slaves registers rights cdm cds through)))
 
   row-answers : rowOf cds′ ≡ answersFrom chain (rowOf cdm)
   row-answers = ap rowOf row-bytes ∙ row-num (answersFrom chain (rowOf cdm))
@@ -87,15 +87,15 @@ module _ {slaves c : ℕ} {rights registers cdm cds registers′ cds′ : List �
     chain-bytes = memories-bytes slaves registers rights bytes
 
     pub row-account : listOf 0 cdm cds′ ≡ account chain (rowOf cdm)
-    row-account = row-list ∙ line.list-is-account chain (rowOf cdm) chain-bytes
+    row-account = row-list ∙ protocol.list-is-account chain (rowOf cdm) chain-bytes
 
     -- .. its reads show what stood there, ..
     pub row-shows : Shows chain (listOf 0 cdm cds′)
-    row-shows = rw row-list (line.reads-show chain (rowOf cdm) chain-bytes)
+    row-shows = rw row-list (protocol.reads-show chain (rowOf cdm) chain-bytes)
 
     -- .. and its replay gives the lent registers, all of them, as run left them.
     row-final : replay chain (listOf 0 cdm cds′) ≡ memoriesAfter chain (rowOf cdm)
-    row-final = rw row-list (line.replay-is-final chain (rowOf cdm) chain-bytes)
+    row-final = rw row-list (protocol.replay-is-final chain (rowOf cdm) chain-bytes)
 
     pub row-replay : registersOf (replay chain (listOf 0 cdm cds′)) ≡ registers′
     row-replay =
@@ -103,6 +103,6 @@ module _ {slaves c : ℕ} {rights registers cdm cds registers′ cds′ : List �
         = registers-back slaves registers rights (held slaves registers rights cdm cds through .all-registers) in
         let long : length (registersOf (memoriesAfter chain (rowOf cdm))) ≡ length registers
         = rw (← row-final) (replay-length chain (listOf 0 cdm cds′) ∙ ap length as-lent) in
-        let left-registers : registers′ ≡ left none (lent (registersOf (memoriesAfter chain (rowOf cdm))) registers)
+        let registers-after : registers′ ≡ lentAfter none (lent (registersOf (memoriesAfter chain (rowOf cdm))) registers)
         = cc (was-made (ran .ends) .2) in
-        ap registersOf row-final ∙ laid-whole _ registers long ∙ sym left-registers
+        ap registersOf row-final ∙ laid-whole _ registers long ∙ sym registers-after

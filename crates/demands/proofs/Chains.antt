@@ -9,14 +9,14 @@ use borrow.Author.Tests.{ltb-true, ltb-false}
 use lib.Dec.{ltb}
 use lib.ListN.{length, take, drop, getD, take-append-drop, length-append, length-take, length-drop, length-set, List·getD-eq-default}
 use lib.Seq.{getD-take, getD-drop}
-use Rattle.line.specs.Limits.{registerCount}
-use Rattle.line.specs.Division.{dataBits}
-use Rattle.line.specs.Memory.{Memory, allows, holds, stored}
-use Rattle.line.specs.Entries.{Kind, Event, Entry}
-use Rattle.line.specs.Replay.{storedAt, is, put, replay}
+use Rattle.protocol.specs.Limits.{registerCount}
+use Rattle.protocol.specs.Division.{dataBits}
+use Rattle.protocol.specs.Memory.{Memory, allows, holds, stored}
+use Rattle.protocol.specs.Entries.{Kind, Event, Entry}
+use Rattle.protocol.specs.Replay.{storedAt, is, put, replay}
 use Rattle.laws.proofs.Every.{tested}
-use Rattle.line.proofs.Memories.{Bytes}
-use Rattle.line.proofs.Twins.{Like, Alike}
+use Rattle.protocol.proofs.Memories.{Bytes}
+use Rattle.protocol.proofs.Twins.{Like, Alike}
 use Rattle.job.proofs.Bits.{byte-at}
 use Rattle.run.specs.Run.{memoriesOf, registersOf}
 use Rattle.demands.specs.Lent.{areBytes, mayRead, DifferUnread}

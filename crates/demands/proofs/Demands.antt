@@ -1,6 +1,6 @@
 -- What the scope demands, of the jobs' own results: byte rows, chains of up to 16 slaves, registers and rights as they are lent. `Made`
 -- says that a job accepted; a name with a prime, or `after`, is what it left in the buffer that was lent to it. That fourteen zeros bring
--- every slave and the reader to rest speaks of states and not of results: line's slaves-rest and reader-rests. Assumes nothing.
+-- every slave and the reader to rest speaks of states and not of results: protocol's slaves-rest and reader-rests. Assumes nothing.
 use mathlib.Core.Path.{_≡_, refl, sym, ap, _∙_}
 use mathlib.Core.Bool.{true, false}
 use mathlib.Core.List.{List, map}
@@ -8,28 +8,28 @@ use Prim.Native.Nat.{ℕ, _+_, _*_, _≤_, _<_}
 use native.Mathlib.Omega.{arith}
 use borrow.Author.Tests.{le-ltb}
 use lib.ListN.{length, take}
-use Rattle.line.specs.Limits.{restZeros}
-use Rattle.line.specs.Bits.{num, rowOf}
-use Rattle.line.specs.Layout.{current, entryBytes, listBytes, entriesIn, isList}
-use Rattle.line.specs.Account.{account}
-use Rattle.line.specs.Replay.{replay, Shows}
-use Rattle.line.specs.Runs.{FirstRun, NoRun, fromColumn}
-use Rattle.line.specs.Text.{rowsText, listText, cdmOf, cdsOf}
-use Rattle.line.proofs.Codec.{bytes-list}
-use Rattle.line.proofs.Demands as line
-use Rattle.line.proofs.Text.{back-and-there}
+use Rattle.protocol.specs.Limits.{restZeros}
+use Rattle.protocol.specs.Bits.{num, rowOf}
+use Rattle.protocol.specs.Layout.{current, entryBytes, listBytes, entriesIn, isList}
+use Rattle.protocol.specs.Account.{account}
+use Rattle.protocol.specs.Replay.{replay, Shows}
+use Rattle.protocol.specs.Late.{FirstFourteen, NoFourteen, fromColumn}
+use Rattle.protocol.specs.Text.{rowsText, listText, cdmOf, cdsOf}
+use Rattle.protocol.proofs.Codec.{bytes-list}
+use Rattle.protocol.proofs.Demands as protocol
+use Rattle.protocol.proofs.Text.{back-and-there}
 use Rattle.job.specs.declared.Outcome.{Outcome}
 use Rattle.job.specs.declared.Outcome.the-variants.{Made}
 use Rattle.job.proofs.Refusals.{ended-none}
 use Rattle.run.specs.Run.{memoriesOf, registersOf, Ran}
 use Rattle.read.specs.Read.{listOf, Listed}
 use Rattle.print.proofs.Ends.{was-printed}
-use Rattle.entries.specs.Lists.{ListPrinted}
-use Rattle.entries.proofs.Lists.{list-none}
-use Rattle.carry.specs.Carry.{RowsPrinted, RowsTaken}
-use Rattle.demands.specs.Lent.{areBytes, listIn, kindAt, isFault, DifferUnread}
+use Rattle.list_text.specs.Lists.{ListPrinted}
+use Rattle.list_text.proofs.Lists.{list-none}
+use Rattle.rows_text.specs.RowsText.{RowsPrinted, RowsTaken}
+use Rattle.demands.specs.Lent.{areBytes, listIn, kindAt, isBreach, DifferUnread}
 use Rattle.demands.proofs.Chains.{all-alike}
-use Rattle.demands.proofs.Lists.{list-count, list-bytes, list-entries, list-empty, list-late, list-never, no-fault-at}
+use Rattle.demands.proofs.Lists.{list-count, list-bytes, list-entries, list-empty, list-late, list-never, no-breach-at}
 use Rattle.demands.proofs.Answers.{row-bytes, rows-read, row-account, row-shows, row-replay}
 use Rattle.demands.proofs.Texts.{rows-taken, printed-back, printed-taken}
 
@@ -49,37 +49,37 @@ module _ {slaves c n : ℕ} {rights registers cdm cds registers′ cds′ lent a
   pub reads-show : Shows (memoriesOf slaves registers rights) (entriesIn current (listIn n after))
   reads-show = rw (list-entries listed) (row-shows ran bytes)
 
-  -- No entry of the list is of a kind 2, 8, 9, 12 or 14: only damaged rows show a fault.
-  pub no-faults : (place : ℕ) → place < n → isFault (kindAt (listIn n after) place) ≡ false
-  no-faults place h =
+  -- No entry of the list is of a kind 2, 8, 9, 12 or 14: only damaged rows show a breach.
+  pub no-breaches : (place : ℕ) → place < n → isBreach (kindAt (listIn n after) place) ≡ false
+  no-breaches place h =
       rw (list-is-account .1)
-      (no-fault-at (account (memoriesOf slaves registers rights) (rowOf cdm)) place (line.no-faults _ (rowOf cdm))
+      (no-breach-at (account (memoriesOf slaves registers rights) (rowOf cdm)) place (protocol.no-breaches _ (rowOf cdm))
       (omega (arith, list-is-account .0)))
 
 -- Every accepted run has such a list: read refuses its two rows from no opening column in them, if an entry has room for each column.
-pub run-is-read : {slaves c k : ℕ} {rights registers cdm cds registers′ cds′ lent after : List ℕ} {answer : Outcome}
-    → Ran slaves rights registers cdm cds (Made c) registers′ cds′ → Listed cdm cds′ k lent answer after
-    → k ≤ length cdm → entryBytes current * length cdm ≤ length lent → answer ≡ Made (length (listOf k cdm cds′))
+pub run-is-read : {slaves c k : ℕ} {rights registers cdm cds registers′ cds′ lent after : List ℕ} {outcome : Outcome}
+    → Ran slaves rights registers cdm cds (Made c) registers′ cds′ → Listed cdm cds′ k lent outcome after
+    → k ≤ length cdm → entryBytes current * length cdm ≤ length lent → outcome ≡ Made (length (listOf k cdm cds′))
 run-is-read {k} {lent} ran listed opening room =
     ended-none (listed .ends) (rows-read ran k lent opening room)
 
 -- The list that read made of any two rows, let in at column k.
 module _ {cdm cds lent after : List ℕ} {k n : ℕ} (listed : Listed cdm cds k lent (Made n) after) where
   -- "A reader let in at column k lists exactly the full list's entries after the first run of fourteen master zeros" lying wholly at or
-  -- after k: the run begins at column j, and the full list is the one that read makes from column 0 ..
-  pub late-opening : {lent′ whole : List ℕ} {m j : ℕ} → Listed cdm cds 0 lent′ (Made m) whole → FirstRun (rowOf cdm) k j
+  -- after k: they begin at column j, and the full list is the one that read makes from column 0 ..
+  pub late-opening : {lent′ whole : List ℕ} {m j : ℕ} → Listed cdm cds 0 lent′ (Made m) whole → FirstFourteen (rowOf cdm) k j
       → listIn n after ≡ listBytes current (fromColumn (j + restZeros) (entriesIn current (listIn m whole)))
   late-opening {j} full first =
       list-bytes listed
       ∙ ap (listBytes current) (list-late listed first ∙ ap (fromColumn (j + restZeros)) (sym (list-entries full)))
 
   -- .. "or nothing if there is none": no entry, and no byte of the lent buffer changed.
-  pub late-nothing : NoRun (rowOf cdm) k → (n ≡ 0) × (after ≡ lent)
+  pub late-nothing : NoFourteen (rowOf cdm) k → (n ≡ 0) × (after ≡ lent)
   late-nothing never = list-empty listed (list-never listed never)
 
   -- List to text never refuses it by 12, and with room for its text prints it.
-  pub list-prints : {room out : List ℕ} {answer : Outcome} → ListPrinted (listIn n after) room answer out
-      → length (listText (entriesIn current (listIn n after))) ≤ length room → answer ≡ Made (length (listText (entriesIn current (listIn n after))))
+  pub list-prints : {room out : List ℕ} {outcome : Outcome} → ListPrinted (listIn n after) room outcome out
+      → length (listText (entriesIn current (listIn n after))) ≤ length room → outcome ≡ Made (length (listText (entriesIn current (listIn n after))))
   list-prints {room} printed enough =
       let is-list : isList current (listIn n after) ≡ true = rw (list-bytes listed) (bytes-list current (listOf k cdm cds)) in
       ended-none printed (list-none (listIn n after) (length room) is-list (le-ltb _ _ enough))
@@ -89,13 +89,13 @@ pub two-runs : {slaves c d : ℕ} {rights cdm registers cds registers′ cds′ 
     → Ran slaves rights registers cdm cds (Made c) registers′ cds′ → Ran slaves rights others cdm row (Made d) others′ row′
     → DifferUnread rights registers others → cds′ ≡ row′
 two-runs {slaves} {cdm} ran ran′ differ =
-    row-bytes ran ∙ ap (map num) (line.two-runs _ _ (rowOf cdm) (all-alike slaves differ)) ∙ sym (row-bytes ran′)
+    row-bytes ran ∙ ap (map num) (protocol.two-runs _ _ (rowOf cdm) (all-alike slaves differ)) ∙ sym (row-bytes ran′)
 
 -- "Rows go to text and back unchanged": what rows to text wrote, text to rows takes back, into rows with room for it.
-pub rows-come-back : (cdm cds : List ℕ) {lent text a b a′ b′ : List ℕ} {n : ℕ} {answer : Outcome}
-    → RowsPrinted cdm cds lent (Made n) text → RowsTaken (take n text) a b answer a′ b′
+pub rows-come-back : (cdm cds : List ℕ) {lent text a b a′ b′ : List ℕ} {n : ℕ} {outcome : Outcome}
+    → RowsPrinted cdm cds lent (Made n) text → RowsTaken (take n text) a b outcome a′ b′
     → length cdm ≤ length a → length cdm ≤ length b
-    → (answer ≡ Made (length cdm)) × (take (length cdm) a′ ≡ cdm) × (take (length cdm) b′ ≡ cds)
+    → (outcome ≡ Made (length cdm)) × (take (length cdm) a′ ≡ cdm) × (take (length cdm) b′ ≡ cds)
 rows-come-back cdm cds printed rows room room′ =
     let accepted = printed-taken cdm cds printed rows room room′ in
     let there = rows-taken (rw accepted at rows) in

@@ -4,19 +4,19 @@ use mathlib.Core.List.{List}
 use mathlib.Core.Option.{none, orElse}
 use Prim.Native.Nat.{ℕ, _≤_}
 use lib.ListN.{length, take}
-use Rattle.line.specs.Text.{badLine, cdmOf, cdsOf}
-use Rattle.line.specs.Fault.{textFault}
-use Rattle.line.proofs.Text.{Back, there-and-back}
-use Rattle.line.proofs.Fault.{nothing-wrong, nothing-told}
-use Rattle.job.specs.Refusals.{first, lent, left}
+use Rattle.protocol.specs.Text.{badLine, cdmOf, cdsOf}
+use Rattle.protocol.specs.Fault.{textFault}
+use Rattle.protocol.proofs.Text.{Back, there-and-back}
+use Rattle.protocol.proofs.Fault.{nothing-wrong, nothing-told}
+use Rattle.job.specs.Refusals.{first, lent, lentAfter}
 use Rattle.job.specs.declared.Outcome.{Outcome}
 use Rattle.job.specs.declared.Outcome.the-variants.{Made}
 use Rattle.job.proofs.Bits.{all-bits}
 use Rattle.job.proofs.Refusals.{no, none-before, result-first, was-made, ended-none}
 use Rattle.job.proofs.Rows.{Right, right-rows}
 use Rattle.print.proofs.Ends.{was-printed}
-use Rattle.carry.specs.Carry.{rowsRefusals, RowsPrinted, textRefusals, RowsTaken}
-use Rattle.carry.proofs.Ends.{room-given, columns-in, form-good}
+use Rattle.rows_text.specs.RowsText.{rowsRefusals, RowsPrinted, textRefusals, RowsTaken}
+use Rattle.rows_text.proofs.Ends.{room-given, columns-in, form-good}
 
 -- Columns that were taken: the text has no bad line, and its rows stand at the start of the lent ones.
 pub record Rows (text : List ℕ) (n : ℕ) (cdm cds : List ℕ) : Type 0 where
@@ -29,8 +29,8 @@ unfolding textRefusals
 rows-taken {text} {a} {b} {a′} {b′} {n} rows =
     let done = was-made (rows .ends) in
     let both : length (cdmOf text) ≡ length (cdsOf text) = columns-in text .0 ∙ sym (columns-in text .1) in
-    let in-cdm : a′ ≡ left none (lent (cdmOf text) a) = cc in
-    let in-cds : b′ ≡ left none (lent (cdsOf text) b) = cc in
+    let in-cdm : a′ ≡ lentAfter none (lent (cdmOf text) a) = cc in
+    let in-cds : b′ ≡ lentAfter none (lent (cdsOf text) b) = cc in
     record {
       good = nothing-wrong text (form-good (textFault text) (no 11 _ (done .0)));
       cdm-there = rw (done .1, in-cdm) (result-first (cdmOf text) a);
@@ -49,8 +49,8 @@ module _ (cdm cds : List ℕ) {out text : List ℕ} {n : ℕ} (printed : RowsPri
       rw (was-printed printed .2)
       (there-and-back cdm cds (right .same) (all-bits cdm (right .cdm-bits)) (all-bits cds (right .cds-bits)))
 
-  pub printed-taken : {a b a′ b′ : List ℕ} {answer : Outcome} → RowsTaken (take n text) a b answer a′ b′
-      → length cdm ≤ length a → length cdm ≤ length b → answer ≡ Made (length cdm)
+  pub printed-taken : {a b a′ b′ : List ℕ} {outcome : Outcome} → RowsTaken (take n text) a b outcome a′ b′
+      → length cdm ≤ length a → length cdm ≤ length b → outcome ≡ Made (length cdm)
   unfolding textRefusals first orElse
   printed-taken {a} {b} rows room room′ =
       let back = printed-back in

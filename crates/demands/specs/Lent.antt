@@ -6,8 +6,8 @@ use mathlib.Core.List.{List, [], _∷_}
 use Prim.Native.Nat.{ℕ, _*_}
 use lib.Dec.{eqb}
 use lib.ListN.{length, take, getD}
-use Rattle.line.specs.Bits.{num, bit}
-use Rattle.line.specs.Layout.{Field, current, entryBytes, fieldAt}
+use Rattle.protocol.specs.Bits.{num, bit}
+use Rattle.protocol.specs.Layout.{Field, current, entryBytes, fieldAt}
 use Rattle.job.specs.Bytes.{noneAbove}
 
 -- A lent buffer holds bytes, as every slice of `u8` does.
@@ -28,8 +28,8 @@ isOneOf [] n = false
 isOneOf (x ∷ xs) n = eqb n x || isOneOf xs n
 
 -- Entries, of the chain's account: "2, 8, 9, 12 and 14 never occur in it".
-unfoldable pub isFault : (kind : ℕ) → Bool
-isFault kind = isOneOf (2 ∷ 8 ∷ 9 ∷ 12 ∷ 14 ∷ []) kind
+unfoldable pub isBreach : (kind : ℕ) → Bool
+isBreach kind = isOneOf (2 ∷ 8 ∷ 9 ∷ 12 ∷ 14 ∷ []) kind
 
 -- "0 none, 1 read, 2 write, 3 both": the right at a place of the lent rights allows a read.
 unfoldable pub mayRead : (rights : List ℕ) → (place : ℕ) → Bool

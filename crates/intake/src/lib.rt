@@ -1,5 +1,5 @@
-// The indexing program as a library: it reads standard input to its end, whatever its length and its pieces, and prints what answer
-// says of it. A read or a write that fails is told on standard error, and nothing is printed as if it were an answer.
+// The indexing program as a library: it reads standard input to its end, whatever its length and its pieces, and prints what report
+// says of it. A read or a write that fails is told on standard error, and nothing is printed as if it were a report.
 mod words;
 
 ghost use Prim.Native.Nat.{_+_, _≤_, _^_};
@@ -7,10 +7,10 @@ ghost use mathlib.Core.Path.{_≡_};
 ghost use lib.ListN.{length};
 ghost use Rattle.io.specs.Counts.{Counts};
 ghost use Rattle.intake.specs.Counted.{Printable};
+use argument::Asked;
 use job::Outcome;
 use libc::STDIN_FILENO;
 use libc::STDOUT_FILENO;
-use opening::Asked;
 
 // The longest text of admitted rows is a header of 8 bytes and 4,096 lines of 4; a piece has room for a line more.
 const PIECE: usize = 16396;
@@ -18,8 +18,8 @@ const PIECE: usize = 16396;
 // Nothing says that an input ends, so its pieces are counted down from a number that no input reaches.
 const PIECES: usize = 1099511627776;
 
-// More than any answer: a header, and for each of 4,096 columns a line of at most 27 bytes.
-const ANSWER: usize = 131072;
+// More than any report: a header, and for each of 4,096 columns a line of at most 27 bytes.
+const REPORT: usize = 131072;
 
 // What came of reading: so many bytes, fewer than were asked for only at the end of the input or where a read failed.
 struct Filled {
@@ -51,7 +51,7 @@ pub fn index() {
         words::usage();
         return;
     }
-    let asked = opening::asked_by(&word[..n]);
+    let asked = argument::asked_by(&word[..n]);
     match asked {
         Asked::Column(column) => list(column),
         Asked::Help => words::help(),
@@ -74,7 +74,7 @@ fn list(opening: usize) {
 // A first piece that is not full is the whole text.
 fn list_first(text: &[u8], opening: usize) {
     if text.len() < PIECE {
-        list_text(text, opening);
+        list_whole(text, opening);
         return;
     }
     let stop = cursor::stop_of(text);
@@ -86,10 +86,10 @@ fn list_first(text: &[u8], opening: usize) {
 }
 
 // A text that is all here.
-fn list_text(text: &[u8], opening: usize) {
-    let mut out = answer_room();
-    let answered = answer::answer(text, opening, &mut out);
-    print(&out, answered);
+fn list_whole(text: &[u8], opening: usize) {
+    let mut out = report_room();
+    let outcome = report::report(text, opening, &mut out);
+    print(&out, outcome);
 }
 
 // A text with more columns than a row may have, whose first piece keeps its form: what is behind it is read to its stop. A piece may
@@ -126,10 +126,10 @@ fn next_piece(place: usize) -> Piece
         return Piece::Failed;
     }
     let n = filled.count;
-    shown(&text[..n], place)
+    piece_of(&text[..n], place)
 }
 
-fn shown(text: &[u8], place: usize) -> Piece
+fn piece_of(text: &[u8], place: usize) -> Piece
     requires { ⌜ place ≤ 2 ^ 62 ⌝ }
 {
     let stop = cursor::stop_in(text, place);
@@ -140,17 +140,17 @@ fn shown(text: &[u8], place: usize) -> Piece
     }
 }
 
-// The answer to a text that is too long, by the place where it stops and the end of what was read of it.
+// The report on a text that is too long, by the place where it stops and the end of what was read of it.
 fn print_long(stop: usize, end: usize) {
-    let mut out = answer_room();
-    let answered = answer::long_answer(stop, end, &mut out);
-    print(&out, answered);
+    let mut out = report_room();
+    let outcome = report::long_report(stop, end, &mut out);
+    print(&out, outcome);
 }
 
-fn print(out: &[u8], answered: Outcome)
-    requires { ⌜ Printable answered (now out) ⌝ }
+fn print(out: &[u8], outcome: Outcome)
+    requires { ⌜ Printable outcome (now out) ⌝ }
 {
-    match answered {
+    match outcome {
         Outcome::Made(n) => {
             if !io::write_all(STDOUT_FILENO, &out[..n]) {
                 words::not_written();
@@ -207,8 +207,8 @@ fn piece_room() -> [u8; PIECE]
     [0; PIECE]
 }
 
-fn answer_room() -> [u8; ANSWER]
+fn report_room() -> [u8; REPORT]
     ensures { λ r. ⌜ 131072 ≡ length r ⌝ }
 {
-    [0; ANSWER]
+    [0; REPORT]
 }

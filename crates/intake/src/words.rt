@@ -1,4 +1,4 @@
-// What the indexing program says beside its answers: help on standard output, all else on standard error.
+// What the indexing program says beside its reports: help on standard output, all else on standard error.
 use libc::STDERR_FILENO;
 use libc::STDOUT_FILENO;
 

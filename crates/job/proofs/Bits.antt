@@ -9,8 +9,8 @@ use borrow.Author.Tests.{leb-true}
 use lib.Dec.{leb}
 use lib.ListN.{length, drop, getD, drop-of-length-le}
 use lib.Seq.{drop-cons}
-use Rattle.line.specs.Bits.{num}
-use Rattle.line.proofs.Text.{Bits}
+use Rattle.protocol.specs.Bits.{num}
+use Rattle.protocol.proofs.Text.{Bits}
 use Rattle.laws.proofs.Every.{both}
 use Rattle.job.specs.Bytes.{noneAbove, areBits}
 
@@ -21,7 +21,7 @@ module _ (limit : ℕ) (bytes : List ℕ) (i : ℕ) (good : Bool) where
   unfolding noneAbove
   one-byte h = rw (and-assoc, add-one, drop-cons bytes i 0 h)
 
-  -- .. and where none are left it is the answer.
+  -- .. and where none are left it is the result.
   pub no-byte : length bytes ≤ i → good && noneAbove limit (drop i bytes) ≡ good
   unfolding noneAbove
   no-byte h = rw (drop-of-length-le bytes h, and-true)
@@ -33,7 +33,7 @@ byte-at limit [] i e = omega arith
 byte-at limit (b ∷ bytes) zero e = leb-true b limit (both (leb b limit) (noneAbove limit bytes) e .0)
 byte-at limit (b ∷ bytes) (suc i) e = byte-at limit bytes i (both (leb b limit) (noneAbove limit bytes) e .1)
 
--- .. so a row of bits is one in the words of line's texts; and the bytes of bits are such a row.
+-- .. so a row of bits is one in the words of protocol's texts; and the bytes of bits are such a row.
 pub all-bits : (row : List ℕ) → areBits row ≡ true → Bits row
 unfolding areBits noneAbove
 all-bits [] e = tt

@@ -1,4 +1,4 @@
--- Bytes laid into a lent buffer, one run after the other: stores add up, and what was laid from the start is the result with the
+-- Bytes laid into a lent buffer, one part after the other: stores add up, and what was laid from the start is the result with the
 -- rest of the buffer behind it. Assumes nothing.
 use mathlib.Core.Path.{_≡_}
 use mathlib.Core.List.{List, [], _∷_, _++_}

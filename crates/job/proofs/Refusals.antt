@@ -1,5 +1,5 @@
 -- What holds of every list of rules, and of every job that ends by one, whatever its numbers are: when a number is given, what is known
--- where none is, rules behind others, the ends of a job, and that it has one answer. Assumes nothing.
+-- where none is, rules behind others, the ends of a job, and that it has one result. Assumes nothing.
 use mathlib.Core.Path.{_≡_, refl, sym, ap, _∙_}
 use mathlib.Core.Bool.{Bool, true, false, cond, _||_, true≢false}
 use mathlib.Core.List.{List, [], _∷_, _++_, map, append-nil}
@@ -10,8 +10,8 @@ use native.Mathlib.Omega.{arith}
 use lib.Dec.{eqb}
 use lib.ListN.{length, take, drop, length-append, drop-of-length-le}
 use lib.Seq.{sets, take-append-seam}
-use Rattle.laws.proofs.Unique.{one-answer}
-use Rattle.job.specs.Refusals.{alone, Refusal, refusal, Rule, when, found, first, given, made, refused, ending, detail, told, Lent, lent, left, Ended}
+use Rattle.laws.proofs.Unique.{one-result}
+use Rattle.job.specs.Refusals.{alone, Refusal, refusal, Rule, when, found, first, given, made, refused, ending, detail, told, Lent, lent, lentAfter, Ended}
 use Rattle.job.specs.declared.Outcome.{Outcome}
 use Rattle.job.specs.declared.Outcome.the-variants.{Made, Refused}
 use Rattle.job.specs.declared.Detail as Code
@@ -119,7 +119,7 @@ first-append (found label none ∷ rules) more = first-append rules more
 first-append (found label (some r) ∷ rules) more = refl
 
 -- A number that the code hands on counts before any other; 0 says that none was given; and no two say the same, so that a promise of one
--- has one answer.
+-- has one result.
 pub counts : (why : ℕ) (other : Option Refusal) → (why ≡ 0 → ⊥) → given why ≡ orElse (given why) other
 unfolding orElse
 counts zero other h = absurd (h refl)
@@ -154,7 +154,7 @@ module _ (rules more : List Rule) where
       before none e = refl
       before (some r) e = e
 
--- No two answers of the code are told alike, so that a promise of what is told has one answer.
+-- No two outcomes of the code are told alike, so that a promise of what is told has one result.
 one-told : (a b : Outcome) → told a ≡ told b → a ≡ b
 one-told (Made n) (Made m) e = cc
 one-told (Made n) (Refused k d) e = cc
@@ -168,74 +168,74 @@ one-told (Refused k (OnLine l)) (Refused m (OnLine j)) e = cc
 abbrev pub unchanged : Lent → List ℕ
 unchanged (lent result before) = before
 
-all-unchanged : (r : Refusal) (buffers : List Lent) → map unchanged buffers ≡ map (left (some r)) buffers
-unfolding left
+all-unchanged : (r : Refusal) (buffers : List Lent) → map unchanged buffers ≡ map (lentAfter (some r)) buffers
+unfolding lentAfter
 all-unchanged r [] = refl
 all-unchanged r (lent result before ∷ buffers) = ap (λ (l : List (List ℕ)). before ∷ l) (all-unchanged r buffers)
 
 -- A result laid from the start of its buffer, one that takes the place of all of it, and that it stands there whole.
 module _ (result before : List ℕ) where
-  pub laid : length result ≤ length before → sets before 0 result ≡ left none (lent result before)
-  unfolding left
+  pub laid : length result ≤ length before → sets before 0 result ≡ lentAfter none (lent result before)
+  unfolding lentAfter
   laid h = sets-first before result h
 
-  pub laid-whole : length result ≡ length before → result ≡ left none (lent result before)
-  unfolding left
+  pub laid-whole : length result ≡ length before → result ≡ lentAfter none (lent result before)
+  unfolding lentAfter
   laid-whole h =
       let end : drop (length result) before ≡ [] = drop-of-length-le before {i = length result} (omega arith) in
       rw (end, append-nil result)
 
-  pub result-fits : length result ≤ length (left none (lent result before))
-  unfolding left
+  pub result-fits : length result ≤ length (lentAfter none (lent result before))
+  unfolding lentAfter
   result-fits = omega (arith, length-append result (drop (length result) before))
 
-  pub result-first : take (length result) (left none (lent result before)) ≡ result
-  unfolding left
+  pub result-first : take (length result) (lentAfter none (lent result before)) ≡ result
+  unfolding lentAfter
   result-first = take-append-seam result _
 
 -- The ends of a job: refused, with every lent byte as it was ..
 module _ (rules : List Rule) (count : ℕ) (buffers : List Lent) where
-  pub ended-refused : (answer : Outcome) (r : Refusal) → told answer ≡ refused r → first rules ≡ some r
-      → Ended rules count buffers answer (map unchanged buffers)
-  ended-refused answer r e g = record { answers = e ∙ rw g; leaves = rw g (all-unchanged r buffers) }
+  pub ended-refused : (outcome : Outcome) (r : Refusal) → told outcome ≡ refused r → first rules ≡ some r
+      → Ended rules count buffers outcome (map unchanged buffers)
+  ended-refused outcome r e g = record { tells = e ∙ rw g; leaves = rw g (all-unchanged r buffers) }
 
   pub ended-given : (why : ℕ) → given why ≡ first rules → (why ≡ 0 → ⊥) → Ended rules count buffers (Refused why Alone) (map unchanged buffers)
   ended-given zero e h = absurd (h refl)
   ended-given (suc n) e h = ended-refused (Refused (suc n) Alone) (refusal (suc n) alone) refl (sym e)
 
   -- .. or made.
-  pub ended-made : (n : ℕ) (after : List (List ℕ)) → first rules ≡ none → n ≡ count → after ≡ map (left none) buffers
+  pub ended-made : (n : ℕ) (after : List (List ℕ)) → first rules ≡ none → n ≡ count → after ≡ map (lentAfter none) buffers
       → Ended rules count buffers (Made n) after
-  ended-made n after g e l = record { answers = rw (g, e); leaves = rw g l }
+  ended-made n after g e l = record { tells = rw (g, e); leaves = rw g l }
 
--- And back, from what a job answered to its rules.
+-- And back, from what a job returned to its rules.
 module _ {rules : List Rule} {count : ℕ} {buffers : List Lent} {after : List (List ℕ)} where
   pub was-made : {n : ℕ} → Ended rules count buffers (Made n) after
-      → (first rules ≡ none) × (n ≡ count) × (after ≡ map (left none) buffers)
-  was-made {n} ended = from (first rules) (ended .answers) (ended .leaves)
+      → (first rules ≡ none) × (n ≡ count) × (after ≡ map (lentAfter none) buffers)
+  was-made {n} ended = from (first rules) (ended .tells) (ended .leaves)
     where
-      from : (f : Option Refusal) → made n ≡ ending f count → after ≡ map (left f) buffers
-          → (f ≡ none) × (n ≡ count) × (after ≡ map (left none) buffers)
+      from : (f : Option Refusal) → made n ≡ ending f count → after ≡ map (lentAfter f) buffers
+          → (f ≡ none) × (n ≡ count) × (after ≡ map (lentAfter none) buffers)
       from none e l = (refl, cc, l)
       from (some r) e l = absurd (let z : _≡_ {A = ℕ} 0 1 = cc in omega arith)
 
   pub was-refused : {number : ℕ} {beside : Code.Detail} → Ended rules count buffers (Refused number beside) after
       → first rules ≡ some (refusal number (detail beside))
-  was-refused {number} {beside} ended = from (first rules) (ended .answers)
+  was-refused {number} {beside} ended = from (first rules) (ended .tells)
     where
       from : (f : Option Refusal) → refused (refusal number (detail beside)) ≡ ending f count → f ≡ some (refusal number (detail beside))
       from none e = absurd (let z : _≡_ {A = ℕ} 0 1 = cc in omega arith)
       from (some r) e = cc
 
-  pub ended-none : {answer : Outcome} → Ended rules count buffers answer after → first rules ≡ none → answer ≡ Made count
-  ended-none {answer} ended e = one-told answer (Made count) (ended .answers ∙ rw e)
+  pub ended-none : {outcome : Outcome} → Ended rules count buffers outcome after → first rules ≡ none → outcome ≡ Made count
+  ended-none {outcome} ended e = one-told outcome (Made count) (ended .tells ∙ rw e)
 
   -- A job ends alike by rules that give the same.
-  pub same-rules : {others : List Rule} {answer : Outcome} → Ended rules count buffers answer after → first rules ≡ first others
-      → Ended others count buffers answer after
-  same-rules ended e = record { answers = rw (← e) (ended .answers); leaves = rw (← e) (ended .leaves) }
+  pub same-rules : {others : List Rule} {outcome : Outcome} → Ended rules count buffers outcome after → first rules ≡ first others
+      → Ended others count buffers outcome after
+  same-rules ended e = record { tells = rw (← e) (ended .tells); leaves = rw (← e) (ended .leaves) }
 
-  -- A job's promise has one answer: two results that meet it are equal, in what is answered and in every lent byte.
+  -- A job's promise has one result: two results that meet it are equal, in what is returned and in every lent byte.
   pub ended-unique : {a b : Outcome} {other : List (List ℕ)} → Ended rules count buffers a after → Ended rules count buffers b other
       → (a ≡ b) × (after ≡ other)
-  ended-unique {a} {b} p q = (one-told a b (one-answer (p .answers) (q .answers)), one-answer (p .leaves) (q .leaves))
+  ended-unique {a} {b} p q = (one-told a b (one-result (p .tells) (q .tells)), one-result (p .leaves) (q .leaves))

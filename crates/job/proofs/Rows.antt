@@ -8,7 +8,7 @@ use native.Mathlib.Omega.{arith}
 use borrow.Author.Tests.{le-ltb, ltb-false, eq-eqb, eqb-true, not-false}
 use lib.Dec.{ltb, eqb}
 use lib.ListN.{length}
-use Rattle.line.specs.Limits.{columnLimit}
+use Rattle.protocol.specs.Limits.{columnLimit}
 use Rattle.laws.proofs.Every.{both}
 use Rattle.job.specs.Bytes.{areBits}
 use Rattle.job.specs.Refusals.{Rule, when, first}

@@ -48,7 +48,7 @@ abbrev pub ending : Option Refusal → (count : ℕ) → Ending
 ending none count = made count
 ending (some r) count = refused r
 
--- This paper's number and values for each case of what the code answers: what is told beside the number ..
+-- This paper's number and values for each case of what the code returns: what is told beside the number ..
 abbrev pub detail : Code.Detail → Detail
 detail Alone = alone
 detail (OnLine line) = on-line line
@@ -63,11 +63,11 @@ pub data Lent : Type 0 where
   lent : (result before : List ℕ) → Lent
 
 -- What it holds afterwards: a refusal "changes no lent byte", and of a success "bytes past them stay".
-unfoldable pub left : Option Refusal → Lent → List ℕ
-left none (lent result before) = result ++ drop (length result) before
-left (some r) (lent result before) = before
+unfoldable pub lentAfter : Option Refusal → Lent → List ℕ
+lentAfter none (lent result before) = result ++ drop (length result) before
+lentAfter (some r) (lent result before) = before
 
--- What a job with these rules answers, and what it leaves in the buffers that were lent to it.
-pub record Ended (rules : List Rule) (count : ℕ) (buffers : List Lent) (answer : Outcome) (after : List (List ℕ)) : Type 0 where
-  pub answers : told answer ≡ ending (first rules) count
-  pub leaves : after ≡ map (left (first rules)) buffers
+-- What a job with these rules returns, and what it leaves in the buffers that were lent to it.
+pub record Ended (rules : List Rule) (count : ℕ) (buffers : List Lent) (outcome : Outcome) (after : List (List ℕ)) : Type 0 where
+  pub tells : told outcome ≡ ending (first rules) count
+  pub leaves : after ≡ map (lentAfter (first rules)) buffers

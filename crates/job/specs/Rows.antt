@@ -4,7 +4,7 @@ use mathlib.Core.List.{List, [], _∷_}
 use Prim.Native.Nat.{ℕ}
 use lib.Dec.{ltb, eqb}
 use lib.ListN.{length}
-use Rattle.line.specs.Limits.{columnLimit}
+use Rattle.protocol.specs.Limits.{columnLimit}
 use Rattle.job.specs.Bytes.{areBits}
 use Rattle.job.specs.Refusals.{Rule, when}
 

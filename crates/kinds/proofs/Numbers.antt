@@ -7,7 +7,7 @@ use Prim.Native.Nat.{ℕ, zero, suc, _≤_, _<_}
 use native.Mathlib.Omega.{arith}
 use borrow.Author.Tests.{leb-true, leb-false, ne-eqb}
 use lib.Dec.{leb}
-use Rattle.line.specs.Entries.{Kind, closed, number, kinds, numbered}
+use Rattle.protocol.specs.Entries.{Kind, closed, number, kinds, numbered}
 use Rattle.laws.proofs.Every.{tested, both}
 use Rattle.laws.proofs.Table.{below}
 use Rattle.kinds.specs.Kinds.{isKind}

@@ -1,8 +1,8 @@
--- Which numbers are kinds, and which kind, for the contracts of the code: the table itself is line's (specs/Entries).
+-- Which numbers are kinds, and which kind, for the contracts of the code: the table itself is protocol's (specs/Entries).
 use mathlib.Core.Bool.{Bool, true, false}
 use mathlib.Core.Option.{Option, none, some}
 use Prim.Native.Nat.{ℕ}
-use Rattle.line.specs.Entries.{Kind, end, kinds, numbered}
+use Rattle.protocol.specs.Entries.{Kind, end, kinds, numbered}
 
 -- A number is some kind's.
 abbrev pub isOne : Option Kind → Bool

@@ -1,4 +1,4 @@
--- Laws about no line: lists, their places and tests, tables, the rules of a branch, and that an equation has one answer.
+-- General laws: lists, their places and tests, tables, the rules of a branch, and that an equation has one result.
 pub mod Every
 pub mod Places
 pub mod Table

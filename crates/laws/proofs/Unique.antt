@@ -1,5 +1,5 @@
--- A promise that is an equation has one answer: two results that meet it are equal. Cited once for each public function. Assumes nothing.
+-- A promise that is an equation has one result: two results that meet it are equal. Cited once for each public function. Assumes nothing.
 use mathlib.Core.Path.{_≡_, sym, _∙_}
 
-pub one-answer : {A : Type 0} {x y promised : A} → x ≡ promised → y ≡ promised → x ≡ y
-one-answer p q = p ∙ sym q
+pub one-result : {A : Type 0} {x y promised : A} → x ≡ promised → y ≡ promised → x ≡ y
+one-result p q = p ∙ sym q

@@ -1,14 +1,14 @@
--- The walk over a list's bytes: the entry at a place, and what is behind it; line's laws in the words of the code. Assumes nothing.
+-- The walk over a list's bytes: the entry at a place, and what is behind it; protocol's laws in the words of the code. Assumes nothing.
 use mathlib.Core.Path.{_≡_, refl, sym, _∙_}
 use mathlib.Core.Bool.{true, false, _&&_, false≢true}
 use mathlib.Core.List.{List, _∷_}
 use mathlib.Core.Option.{Option, none, some}
 use Prim.Native.Nat.{ℕ, _+_, _-_, _≤_}
 use lib.ListN.{length, drop}
-use Rattle.line.specs.Entries.{Kind, kinds, numbered}
-use Rattle.line.specs.Layout.{Field, current, entryBytes, fieldAt, entryBy, andMore, isEntry, entriesIn, isList}
+use Rattle.protocol.specs.Entries.{Kind, kinds, numbered}
+use Rattle.protocol.specs.Layout.{Field, current, entryBytes, fieldAt, entryBy, andMore, isEntry, entriesIn, isList}
 use Rattle.laws.proofs.Every.{both}
-use Rattle.line.proofs.Codec.{entries-more, list-more}
+use Rattle.protocol.proofs.Codec.{entries-more, list-more}
 use Rattle.kinds.specs.Kinds.{isOne, isKind}
 use Rattle.lists.specs.Fields.{fieldsAt, entryOf}
 

@@ -1,8 +1,9 @@
--- Entries as the code takes them out of a list, for the contracts of the jobs that take one: entries and lists are line's (specs/Layout).
+-- Entries as the code takes them out of a list, for the contracts of the jobs that take one: entries and lists are protocol's
+-- (specs/Layout).
 use mathlib.Core.List.{List}
 use Prim.Native.Nat.{ℕ}
-use Rattle.line.specs.Entries.{Entry}
-use Rattle.line.specs.Layout.{Field, current, fieldAt}
+use Rattle.protocol.specs.Entries.{Entry}
+use Rattle.protocol.specs.Layout.{Field, current, fieldAt}
 use Rattle.kinds.specs.Kinds.{kindOf}
 use Rattle.lists.specs.declared.Fields.{Fields}
 

@@ -2,7 +2,7 @@
 ghost use mathlib.Core.Path.{_≡_};
 ghost use Prim.Native.Nat.{_+_, _*_, _≤_};
 ghost use lib.ListN.{length};
-ghost use Rattle.line.specs.Layout.{current, entryBytes, isList};
+ghost use Rattle.protocol.specs.Layout.{current, entryBytes, isList};
 ghost use Rattle.lists.specs.Fields.{fieldsAt};
 use job::ENTRY_BYTES;
 

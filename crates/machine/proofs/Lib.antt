@@ -1,3 +1,3 @@
--- The zeros as line's timer counts them, and that the promise of this crate has one answer.
+-- The zeros as protocol's timer counts them, and that the promise of this crate has one result.
 pub mod Zeros
 mod Unique

@@ -1,15 +1,16 @@
--- A column whose zeros are counted: line's timer and its judge say the same of it, by whether it is the fourteenth zero. Assumes nothing.
+-- A column whose zeros are counted: protocol's timer and its judge say the same of it, by whether it is the fourteenth zero. Assumes
+-- nothing.
 use mathlib.Core.Path.{_≡_, refl}
 use mathlib.Core.Bool.{Bool, true, false}
 use mathlib.Core.Option.{none, some}
 use Prim.Native.Nat.{ℕ, _+_, _≤_, _<_}
 use native.Mathlib.Omega.{arith}
 use borrow.Author.Tests.{lt-ltb, le-ltb}
-use Rattle.line.specs.Limits.{restZeros}
-use Rattle.line.specs.Rest.{Timed, power, rest, frame, timer, judge}
+use Rattle.protocol.specs.Limits.{restZeros}
+use Rattle.protocol.specs.Rest.{Timed, power, rest, frame, timer, judge}
 use Rattle.machine.specs.Zeros.{zerosAfter, timed, judgedAt, endedAt}
 
--- By line's timer ..
+-- By protocol's timer ..
 module _ (z : ℕ) {z′ : ℕ} where
   pub timer-on : (m : Bool) → z′ ≡ zerosAfter z m → z′ < restZeros → timer z m ≡ some z′
   unfolding timer zerosAfter

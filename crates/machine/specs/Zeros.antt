@@ -2,8 +2,8 @@
 -- needed to read what run or read promises.
 use mathlib.Core.Bool.{Bool, true, false}
 use Prim.Native.Nat.{ℕ, _+_, min}
-use Rattle.line.specs.Limits.{restZeros}
-use Rattle.line.specs.Rest.{Timed, power, rest, frame, Judged, still, ends, meant}
+use Rattle.protocol.specs.Limits.{restZeros}
+use Rattle.protocol.specs.Rest.{Timed, power, rest, frame, Judged, still, ends, meant}
 
 -- The zeros in a row after one column more, fourteen at most.
 unfoldable pub zerosAfter : (zeros : ℕ) → (m : Bool) → ℕ

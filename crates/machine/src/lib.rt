@@ -17,7 +17,7 @@ pub const CHECKS: u64 = 16;
 // Locks: "slaves past the eighth have none".
 pub const IDS: u64 = 8;
 
-// Locks, the house rule for the place, as `lockFirst` in line's Limits: the column after S that answers IDL0 ..
+// Locks, the house rule for the place, as `lockFirst` in protocol's Limits: the column after S that answers IDL0 ..
 pub const LOCK_FIRST: u64 = 1;
 
 // .. and the one that answers IDL8.

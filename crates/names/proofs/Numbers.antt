@@ -7,12 +7,12 @@ use native.Mathlib.Omega.{arith}
 use borrow.Author.Tests.{leb-true, ne-eqb}
 use lib.Dec.{leb, eqb}
 use lib.ListN.{length, getD, take, drop, replicate}
-use Rattle.line.specs.Bits.{num}
-use Rattle.line.specs.Text.{digit}
-use Rattle.line.specs.Entries.{Kind, number, table, numbered}
-use Rattle.line.specs.Pieces.{joined}
+use Rattle.protocol.specs.Bits.{num}
+use Rattle.protocol.specs.Text.{digit}
+use Rattle.protocol.specs.Entries.{Kind, number, table, numbered}
+use Rattle.protocol.specs.Pieces.{joined}
 use Rattle.laws.proofs.Table.{tabulate, tabulated, below}
-use Rattle.line.proofs.Codec.{numbered-own}
+use Rattle.protocol.proofs.Codec.{numbered-own}
 use Rattle.kinds.specs.Kinds.{isOne, isKind, kindOr, kindOf}
 use Rattle.kinds.proofs.Numbers.{last, no-kind, kind-low}
 use Rattle.names.specs.Names.{nameOf, names}

@@ -1,9 +1,9 @@
--- The table of kinds by number, for the contracts of this crate: the table itself is line's (specs/Entries).
+-- The table of kinds by number, for the contracts of this crate: the table itself is protocol's (specs/Entries).
 use mathlib.Core.Bool.{Bool, false}
 use mathlib.Core.List.{List, [], _∷_}
 use Prim.Native.Nat.{ℕ}
 use lib.ListN.{getD}
-use Rattle.line.specs.Entries.{table}
+use Rattle.protocol.specs.Entries.{table}
 use Rattle.kinds.specs.Kinds.{kindOf}
 
 -- "the kind by name".

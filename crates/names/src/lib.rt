@@ -37,7 +37,7 @@ pub fn name_length(kind: u8) -> usize
     (lengths[kind as usize] - b'0') as usize
 }
 
-// Lays a kind's name and answers the place behind it.
+// Lays a kind's name and returns the place behind it.
 pub fn put_name(out: &mut [u8], at: usize, kind: u8) -> usize
     requires { ⌜ (isKind kind ≡ true) × (at + length (nameOf kind) ≤ length (now out)) ⌝ }
     ensures { λ r. ⌜ Laid (nameOf kind) at (now (out .entry)) r (now (out .exit)) ⌝ }

@@ -8,7 +8,7 @@ use native.Mathlib.Omega.{arith}
 use borrow.Author.Tests.{lt-ltb, le-ltb, ltb-true, ltb-false}
 use lib.Dec.{ltb}
 use lib.ListN.{length, length-append}
-use Rattle.line.specs.Text.{digit, digitsIn, decimal}
+use Rattle.protocol.specs.Text.{digit, digitsIn, decimal}
 use Rattle.laws.proofs.Every.{tested}
 
 -- Fuel beyond the number changes nothing.

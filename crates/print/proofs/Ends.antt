@@ -5,7 +5,7 @@ use mathlib.Core.Option.{none}
 use Prim.Native.Nat.{ℕ, _≤_}
 use native.Mathlib.Nat.{zero-add}
 use lib.ListN.{length, take}
-use Rattle.job.specs.Refusals.{Rule, first, lent, left}
+use Rattle.job.specs.Refusals.{Rule, first, lent, lentAfter}
 use Rattle.job.specs.declared.Outcome.the-variants.{Made}
 use Rattle.job.proofs.Refusals.{laid, result-first, ended-made, was-made}
 use Rattle.print.specs.Laid.{Laid}
@@ -21,5 +21,5 @@ pub was-printed : {rules : List Rule} {n : ℕ} {text out after : List ℕ} → 
     → (first rules ≡ none) × (n ≡ length text) × (take n after ≡ text)
 was-printed {n} {text} {out} {after} printed =
     let made = was-made printed in
-    let there : after ≡ left none (lent text out) = cc in
+    let there : after ≡ lentAfter none (lent text out) = cc in
     (made .0, made .1, rw (made .1, there) (result-first text out))

@@ -1,6 +1,6 @@
--- What is proved of printing, beside the proofs of its functions: runs of bytes laid one after the other, decimal numbers, how a job
--- that prints ends, and that its promises have one answer.
-pub mod Runs
+-- What is proved of printing, beside the proofs of its functions: parts laid one after the other, decimal numbers, how a job
+-- that prints ends, and that its promises have one result.
+pub mod Laid
 pub mod Decimal
 pub mod Ends
 pub mod Unique

@@ -5,7 +5,7 @@ use Prim.Native.Nat.{ℕ, _+_}
 use lib.ListN.{length}
 use lib.Seq.{sets}
 
--- Bytes laid into a lent buffer at a place: the place behind them is answered, and no other byte has changed.
-pub record Laid (bytes : List ℕ) (at : ℕ) (lent : List ℕ) (answer : ℕ) (after : List ℕ) : Type 0 where
-  pub behind : answer ≡ at + length bytes
+-- Bytes laid into a lent buffer at a place: the place behind them is returned, and no other byte has changed.
+pub record Laid (bytes : List ℕ) (at : ℕ) (lent : List ℕ) (returned : ℕ) (after : List ℕ) : Type 0 where
+  pub behind : returned ≡ at + length bytes
   pub laid : after ≡ sets lent at bytes

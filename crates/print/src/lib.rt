@@ -1,9 +1,9 @@
-// Printing into a lent buffer: bytes, and numbers in decimal. Each function lays its bytes at a place and answers the place behind them.
+// Printing into a lent buffer: bytes, and numbers in decimal. Each function lays its bytes at a place and returns the place behind them.
 ghost use mathlib.Core.Path.{_≡_};
 ghost use mathlib.Core.List.{_∷_};
 ghost use Prim.Native.Nat.{_+_, _≤_};
 ghost use lib.ListN.{length};
-ghost use Rattle.line.specs.Text.{tab, decimal};
+ghost use Rattle.protocol.specs.Text.{tab, decimal};
 ghost use Rattle.print.specs.Laid.{Laid};
 
 // Lays bytes as they are.

@@ -7,15 +7,15 @@ use native.Mathlib.Omega.{arith}
 use borrow.Author.Tests.{ltb-true}
 use lib.Dec.{ltb}
 use lib.ListN.{length, length-drop}
-use Rattle.line.specs.Limits.{headerColumns, lockFirst, lockLast, registerCount, byteLimit}
-use Rattle.line.specs.Bits.{num, bit, push, rowOf}
-use Rattle.line.specs.Rest.{Timed, powerOn}
-use Rattle.line.specs.Division.{headerBits, checkWidth, fits, byteOf}
-use Rattle.line.specs.Header.{Header, wrong, access, command, header}
-use Rattle.line.specs.Entries.{Kind, table, Event, event, Place, opened, onward, Entry}
-use Rattle.line.specs.Reader.{Locks, ones, upto, mixed, seen, shown, Phase, deaf, locks, head, askR, askW, byteS, reads, writes, askP, Look, locked, headed, oddAnswer, asked, readKind, writeKind, look, step, Column, col, columns, entries, listFrom}
+use Rattle.protocol.specs.Limits.{headerColumns, lockFirst, lockLast, registerCount, byteLimit}
+use Rattle.protocol.specs.Bits.{num, bit, push, rowOf}
+use Rattle.protocol.specs.Rest.{Timed, powerOn}
+use Rattle.protocol.specs.Division.{headerBits, checkWidth, fits, byteOf}
+use Rattle.protocol.specs.Header.{Header, wrong, access, command, header}
+use Rattle.protocol.specs.Entries.{Kind, table, Event, event, Place, opened, onward, Entry}
+use Rattle.protocol.specs.Reader.{Locks, ones, upto, mixed, seen, seenAt, Phase, deaf, locks, head, askR, askW, byteS, reads, writes, askP, Look, locked, headed, oddAnswer, asked, readKind, writeKind, look, step, Column, col, columns, entries, listFrom}
 use Rattle.laws.proofs.Every.{Every, IfAny, either, tested, both}
-use Rattle.line.proofs.Machine.{At, keeps, every-note}
+use Rattle.protocol.proofs.Machine.{At, keeps, every-note}
 use Rattle.read.specs.Read.{listOf}
 use Rattle.read.proofs.Left.{length-columns}
 
@@ -61,8 +61,8 @@ held-seen idl (upto n) true h l = tt
 held-seen idl (upto n) false h l = l
 held-seen idl mixed x h l = tt
 
-held-shown : (column : ℕ) (l : Locks) (x : Bool) → column ≤ lockLast → Counted l → Counted (shown column l x)
-held-shown column l x h c =
+held-seen-at : (column : ℕ) (l : Locks) (x : Bool) → column ≤ lockLast → Counted l → Counted (seenAt column l x)
+held-seen-at column l x h c =
     either Counted (ltb column lockFirst) c (held-seen (column - lockFirst) l x (omega arith) c)
 
 good-locked : (column so-far : ℕ) (l : Locks) → Counted l → Good (locked column so-far l)
@@ -120,7 +120,7 @@ good-look : (p : Phase) (m x : Bool) → Held p → Good (look p m x)
 unfolding look
 good-look deaf m x h = (tt, tt)
 good-look (locks column so-far l) m x h =
-    let counted = held-shown column l x (h .0) (h .1) in
+    let counted = held-seen-at column l x (h .0) (h .1) in
     tested (ltb column lockLast) (λ q. rw q ((omega (arith, ltb-true column lockLast q), counted), tt))
     (λ q. rw q (good-locked column (push so-far m) _ counted))
 good-look (head column so-far lock) m x h =

@@ -8,9 +8,9 @@ use native.Mathlib.Omega.{arith}
 use borrow.Author.Tests.{lt-ltb, le-ltb, ltb-false, leb-true, leb-false, eqb-true, not-false}
 use lib.Dec.{ltb, leb}
 use lib.ListN.{length}
-use Rattle.line.specs.Layout.{current, listBytes}
-use Rattle.line.proofs.Codec.{length-list}
-use Rattle.job.specs.Refusals.{first, given, left}
+use Rattle.protocol.specs.Layout.{current, listBytes}
+use Rattle.protocol.proofs.Codec.{length-list}
+use Rattle.job.specs.Refusals.{first, given, lentAfter}
 use Rattle.job.specs.Rows.{rowRules, wrongRows}
 use Rattle.job.specs.declared.Outcome.the-variants.{Made, Refused}
 use Rattle.job.specs.declared.Detail.the-variants.{Alone}
@@ -74,7 +74,7 @@ module _ (cdm cds : List ℕ) (k : ℕ) where
 
         pub list-made : f ≡ true → (n : ℕ) (between after : List ℕ) → between ≡ out → n ≡ length (listOf k cdm cds)
             → after ≡ keptAll between 0 (listOf k cdm cds) → Listed cdm cds k out (Made n) after
-        unfolding left
+        unfolding lentAfter
         list-made e n between after stays count laid =
             let enough : length (listOf k cdm cds) ≤ roomOf out = leb-true _ _ (sym fits ∙ e) in
             let no-more : length (listBytes current (listOf k cdm cds)) ≤ length out = omega (arith, length-list current (listOf k cdm cds)) in

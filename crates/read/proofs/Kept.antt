@@ -7,10 +7,10 @@ use borrow.Author.Tests.{lt-ltb, le-ltb}
 use lib.Dec.{ltb}
 use lib.ListN.{length, drop, length-append, length-drop}
 use lib.Seq.{sets, sets-eq, length-sets, take-at, drop-append-add, drop-drop}
-use Rattle.line.specs.Entries.{Entry}
-use Rattle.line.specs.Pieces.{joined}
-use Rattle.line.specs.Layout.{current, entryBytes, bytesOf, listBytes}
-use Rattle.line.proofs.Codec.{length-entry}
+use Rattle.protocol.specs.Entries.{Entry}
+use Rattle.protocol.specs.Pieces.{joined}
+use Rattle.protocol.specs.Layout.{current, entryBytes, bytesOf, listBytes}
+use Rattle.protocol.proofs.Codec.{length-entry}
 use Rattle.laws.proofs.Every.{either}
 use Rattle.read.specs.Parts.{roomOf, kept, keptAll}
 

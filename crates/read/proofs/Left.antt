@@ -9,14 +9,14 @@ use native.Mathlib.Numerals.{add-one}
 use native.Mathlib.Omega.{arith}
 use lib.ListN.{length, take, drop, getD, drop-of-length-le, length-drop}
 use lib.Seq.{take-all}
-use Rattle.line.specs.Bits.{bitOf, rowOf}
-use Rattle.line.specs.Rest.{Timed, powerOn}
-use Rattle.line.specs.Entries as line
-use Rattle.line.specs.Entries.{Kind, number, kinds, numbered, opened, onward, note}
-use Rattle.line.specs.Layout.{fieldBytes, bytesOf}
-use Rattle.line.specs.Reader as Reader
-use Rattle.line.specs.Reader.{Phase, Column, col, columns, entries, placeAfter, listFrom}
-use Rattle.line.proofs.Codec.{numbered-own}
+use Rattle.protocol.specs.Bits.{bitOf, rowOf}
+use Rattle.protocol.specs.Rest.{Timed, powerOn}
+use Rattle.protocol.specs.Entries as protocol
+use Rattle.protocol.specs.Entries.{Kind, number, kinds, numbered, opened, onward, note}
+use Rattle.protocol.specs.Layout.{fieldBytes, bytesOf}
+use Rattle.protocol.specs.Reader as Reader
+use Rattle.protocol.specs.Reader.{Phase, Column, col, columns, entries, placeAfter, listFrom}
+use Rattle.protocol.proofs.Codec.{numbered-own}
 use Rattle.reader.specs.Code.{stateOf, Moved, eventOf, moved, after, Steps}
 use Rattle.reader.specs.declared.Event.{Event}
 use Rattle.reader.specs.declared.Stepped.{Stepped}
@@ -41,11 +41,11 @@ length-columns (m ∷ ms) [] = omega arith
 length-columns (m ∷ ms) (x ∷ xs) = omega (arith, length-columns ms xs)
 
 -- "At most one entry falls in a column."
-length-note : (p : line.Place) (o : Option line.Event) (es : List line.Entry) → length (note p o es) ≤ 1 + length es
+length-note : (p : protocol.Place) (o : Option protocol.Event) (es : List protocol.Entry) → length (note p o es) ≤ 1 + length es
 length-note p none es = omega arith
 length-note p (some e) es = omega arith
 
-length-entries : (s : Timed Phase) (p : line.Place) (cs : List Column) → length (entries s p cs) ≤ length cs
+length-entries : (s : Timed Phase) (p : protocol.Place) (cs : List Column) → length (entries s p cs) ≤ length cs
 unfolding entries
 length-entries s p [] = omega arith
 length-entries s p (col m x ∷ cs) =
@@ -75,18 +75,18 @@ module _ (s : Timed Phase) (m x : Bool) (p : Place) (n : ℕ) (out : List ℕ) (
   abbrev from : ℕ → List ℕ → Reached
   from n′ out′ = reached (next .state) (onward s m (placeOf p)) n′ out′ cs
 
-  silent : (o : Option line.Event) → next .says ≡ o → eventOf o .kind ≡ 0
+  silent : (o : Option protocol.Event) → next .says ≡ o → eventOf o .kind ≡ 0
       → reached s (placeOf p) n out (col m x ∷ cs) ≡ from n out
   unfolding reached entries placeAfter Reader.after
   silent none q e = rw q
   silent (some a) q e = absurd (not-zero (a .kind) e)
 
-  given : (o : Option line.Event) → next .says ≡ o → (eventOf o .kind ≡ 0 → ⊥)
+  given : (o : Option protocol.Event) → next .says ≡ o → (eventOf o .kind ≡ 0 → ⊥)
       → reached s (placeOf p) n out (col m x ∷ cs) ≡ from (n + 1) (kept out n (bytesFor p (eventOf o)))
   unfolding reached entries placeAfter Reader.after keptAll bytesFor bytesOf fieldBytes
   given none q h = absurd (h refl)
   given (some a) q h =
-      let es : List line.Entry = entries (next .state) (onward s m (placeOf p)) cs in
+      let es : List protocol.Entry = entries (next .state) (onward s m (placeOf p)) cs in
       let out′ : List ℕ = kept out n (bytesFor p (eventOf (some a))) in
       rw q
       (ap (λ (k : ℕ). record {
@@ -127,7 +127,7 @@ module _ (cdm cds : List ℕ) (i : ℕ) (s : Timed Phase) (r : Stepped) (h : i <
   turn-some e = rw (here, state-is, on, event-is) (given s _ _ p n out (rows (i + 1)) _ refl (rw (← event-is) e))
 
 -- At the end nothing is left.
-pub none-left : (cdm cds : List ℕ) (i : ℕ) (s : Timed Phase) (p : line.Place) (n : ℕ) (out : List ℕ) → length cdm ≤ i
+pub none-left : (cdm cds : List ℕ) (i : ℕ) (s : Timed Phase) (p : protocol.Place) (n : ℕ) (out : List ℕ) → length cdm ≤ i
     → reached s p n out (drop i (columns (rowOf cdm) (rowOf cds))) ≡ record { state = s; place = p; count = n; buffer = out }
 unfolding reached entries placeAfter Reader.after keptAll
 none-left cdm cds i s p n out h =

@@ -1,11 +1,11 @@
--- Read's promise has one answer: two results that meet it are equal, and so are the buffers that they leave; and so has the promise of a
+-- Read's promise has one result: two results that meet it are equal, and so are the buffers that they leave; and so has the promise of a
 -- reading that goes on. Assumes nothing.
 use mathlib.Core.Path.{_≡_}
 use mathlib.Core.List.{List}
 use Prim.Native.Nat.{ℕ}
 use Rattle.job.specs.declared.Outcome.{Outcome}
 use Rattle.job.proofs.Refusals.{ended-unique}
-use Rattle.laws.proofs.Unique.{one-answer}
+use Rattle.laws.proofs.Unique.{one-result}
 use Rattle.read.specs.Read.{Listed}
 use Rattle.read.specs.Parts.{Reached, standing}
 use Rattle.read.specs.declared.Reading.{Reading}
@@ -16,4 +16,4 @@ read-unique p q = let same = ended-unique (p .ends) (q .ends) in (same .0, cc)
 
 scan-on-unique : (a b : Reading) {after other : List ℕ} {promised : Reached} → standing a after ≡ promised → standing b other ≡ promised
     → standing a after ≡ standing b other
-scan-on-unique a b p q = one-answer p q
+scan-on-unique a b p q = one-result p q

@@ -6,11 +6,11 @@ use Prim.Native.Nat.{ℕ, _+_, _*_, _/_, _≤_}
 use lib.Dec.{ltb}
 use lib.ListN.{length}
 use lib.Seq.{sets}
-use Rattle.line.specs.Limits.{columnLimit}
-use Rattle.line.specs.Rest.{Timed}
-use Rattle.line.specs.Entries as line
-use Rattle.line.specs.Layout.{Field, fields, current, entryBytes, fieldBytes, bytesOf}
-use Rattle.line.specs.Reader.{Phase, Column, entries, after, placeAfter}
+use Rattle.protocol.specs.Limits.{columnLimit}
+use Rattle.protocol.specs.Rest.{Timed}
+use Rattle.protocol.specs.Entries as protocol
+use Rattle.protocol.specs.Layout.{Field, fields, current, entryBytes, fieldBytes, bytesOf}
+use Rattle.protocol.specs.Reader.{Phase, Column, entries, after, placeAfter}
 use Rattle.reader.specs.Code.{stateOf}
 use Rattle.reader.specs.declared.Event.{Event}
 use Rattle.read.specs.declared.Place.{Place}
@@ -23,7 +23,7 @@ pub record Rows (cdm cds : List ℕ) (k : ℕ) : Type 0 where
   pub within : k ≤ length cdm
 
 -- A place of the code, as line has it.
-abbrev pub placeOf : Place → line.Place
+abbrev pub placeOf : Place → protocol.Place
 placeOf p = record { column = p .column }
 
 -- What the code has in each field ..
@@ -47,19 +47,19 @@ unfoldable pub kept : (out : List ℕ) → (n : ℕ) → (bytes : List ℕ) → 
 kept out n bytes = cond (ltb n (roomOf out)) (sets out (entryBytes current * n) bytes) out
 
 -- .. and after several: as many as there is room for.
-unfoldable pub keptAll : (out : List ℕ) → (n : ℕ) → List line.Entry → List ℕ
+unfoldable pub keptAll : (out : List ℕ) → (n : ℕ) → List protocol.Entry → List ℕ
 keptAll out n [] = out
 keptAll out n (e ∷ es) = keptAll (kept out n (bytesOf current e)) (n + 1) es
 
 -- How far a reading has come: the reader's state, the place of the next column, how many entries there were, and the buffer.
 pub record Reached : Type 0 where
   pub state : Timed Phase
-  pub place : line.Place
+  pub place : protocol.Place
   pub count : ℕ
   pub buffer : List ℕ
 
 -- Over columns, from any state ..
-unfoldable pub reached : Timed Phase → line.Place → (n : ℕ) → (out : List ℕ) → List Column → Reached
+unfoldable pub reached : Timed Phase → protocol.Place → (n : ℕ) → (out : List ℕ) → List Column → Reached
 reached s p n out cs =
     record { state = after s cs; place = placeAfter s p cs; count = n + length (entries s p cs); buffer = keptAll out n (entries s p cs) }
 

@@ -1,12 +1,12 @@
--- The job read: when it refuses, and what it lists. The reader itself is line's (specs/Reader).
+-- The job read: when it refuses, and what it lists. The reader itself is protocol's (specs/Reader).
 use mathlib.Core.List.{List, [], _∷_, _++_}
 use Prim.Native.Nat.{ℕ}
 use lib.Dec.{ltb}
 use lib.ListN.{length}
-use Rattle.line.specs.Bits.{rowOf}
-use Rattle.line.specs.Entries.{Entry}
-use Rattle.line.specs.Layout.{current, listBytes}
-use Rattle.line.specs.Reader.{columns, listFrom}
+use Rattle.protocol.specs.Bits.{rowOf}
+use Rattle.protocol.specs.Entries.{Entry}
+use Rattle.protocol.specs.Layout.{current, listBytes}
+use Rattle.protocol.specs.Reader.{columns, listFrom}
 use Rattle.job.specs.Refusals.{Rule, when, lent, Ended}
 use Rattle.job.specs.Rows.{wrongRows}
 use Rattle.job.specs.declared.Outcome.{Outcome}
@@ -24,8 +24,8 @@ unfoldable pub refusals : (cdm cds : List ℕ) → (k room : ℕ) → List Rule
 refusals cdm cds k room =
     rowsRefusals cdm cds k ++ when (ltb room (length (listBytes current (listOf k cdm cds)))) 9 ∷ []
 
--- What read answers, in entries, and what it leaves in the lent buffer.
-pub record Listed (cdm cds : List ℕ) (k : ℕ) (out : List ℕ) (answer : Outcome) (after : List ℕ) : Type 0 where
+-- What read returns, in entries, and what it leaves in the lent buffer.
+pub record Listed (cdm cds : List ℕ) (k : ℕ) (out : List ℕ) (outcome : Outcome) (after : List ℕ) : Type 0 where
   pub ends :
-      Ended (refusals cdm cds k (length out)) (length (listOf k cdm cds)) (lent (listBytes current (listOf k cdm cds)) out ∷ []) answer
+      Ended (refusals cdm cds k (length out)) (length (listOf k cdm cds)) (lent (listBytes current (listOf k cdm cds)) out ∷ []) outcome
       (after ∷ [])

@@ -1,15 +1,15 @@
-// The job read: two recorded rows and an opening column in, the list of entries that they show out. It answers Made with the number of
+// The job read: two recorded rows and an opening column in, the list of entries that they show out. It returns Made with the number of
 // entries, or Refused with 5 to 9 and the lent buffer as it was.
 ghost use mathlib.Core.Path.{_≡_};
 ghost use Prim.Native.Nat.{_+_, _≤_};
 ghost use lib.Dec.{leb};
 ghost use lib.ListN.{length};
 ghost use lib.Seq.{sets};
-ghost use Rattle.line.specs.Limits.{columnLimit};
-ghost use Rattle.line.specs.Bits.{rowOf};
-ghost use Rattle.line.specs.Layout.{current, entryBytes};
-ghost use Rattle.line.specs.Reader.{columns};
-ghost use Rattle.line.specs.Entries.{onward};
+ghost use Rattle.protocol.specs.Limits.{columnLimit};
+ghost use Rattle.protocol.specs.Bits.{rowOf};
+ghost use Rattle.protocol.specs.Layout.{current, entryBytes};
+ghost use Rattle.protocol.specs.Reader.{columns};
+ghost use Rattle.protocol.specs.Entries.{onward};
 ghost use Rattle.job.specs.Refusals.{first, given};
 ghost use Rattle.reader.specs.Code.{stateOf, small};
 ghost use Rattle.read.specs.Read.{rowsRefusals, listOf, Listed};
@@ -80,7 +80,7 @@ fn count(cdm: &[u8], cds: &[u8], opening: usize, out: &mut [u8]) -> usize
     scan(cdm, cds, opening, &mut out[..0])
 }
 
-// From power-on at the opening column to the end of the rows; answers how many entries there are.
+// From power-on at the opening column to the end of the rows; returns how many entries there are.
 fn scan(cdm: &[u8], cds: &[u8], opening: usize, out: &mut [u8]) -> usize
     requires { ⌜ Rows (now cdm) (now cds) opening ⌝ }
     ensures { λ r. ⌜ (r ≡ length (listOf opening (now (cdm .entry)) (now (cds .entry)))) × (now (out .exit) ≡ keptAll (now (out .entry)) 0 (listOf opening (now (cdm .entry)) (now (cds .entry)))) ⌝ }
@@ -133,7 +133,7 @@ fn onward(reader: Reader, m: bool, place: Place) -> Place
     }
 }
 
-// The entry after n others, where there is room for it; answers how many there are now.
+// The entry after n others, where there is room for it; returns how many there are now.
 fn keep(out: &mut [u8], n: usize, place: Place, e: Event) -> usize
     requires { ⌜ (n ≤ columnLimit) × (place .column ≤ columnLimit) × small e ⌝ }
     ensures { λ r. ⌜ (r ≡ n + 1) × (now (out .exit) ≡ kept (now (out .entry)) n (bytesFor place e)) ⌝ }

@@ -1,4 +1,4 @@
--- The laws of R, W and the bytes, one for each answer of ask_r, ask_w, byte_s, reads, writes and ask_p, in the words of its branch.
+-- The laws of R, W and the bytes, one for each result of ask_r, ask_w, byte_s, reads, writes and ask_p, in the words of its branch.
 -- Assumes nothing.
 use mathlib.Core.Path.{_≡_, refl}
 use mathlib.Core.Bool.{Bool, true, false, _&&_, Bool·beq, and-true, and-false}
@@ -6,10 +6,10 @@ use Prim.Native.Nat.{ℕ, zero, suc, _+_, _-_, _*_, _/_, _%_, _^_, _≤_, _<_}
 use native.Mathlib.Omega.{arith}
 use borrow.Author.Tests.{lt-ltb, le-ltb, eq-eqb, ne-eqb}
 use mir.Val.{boolByte}
-use Rattle.line.specs.Limits.{registerCount, byteLimit}
-use Rattle.line.specs.Bits.{num, bitOf, push}
-use Rattle.line.specs.Division.{dataBits, checkWidth, topBit, fits, byteOf}
-use Rattle.line.specs.Reader.{deaf, askR, askW, byteS, reads, writes, askP, asked, look}
+use Rattle.protocol.specs.Limits.{registerCount, byteLimit}
+use Rattle.protocol.specs.Bits.{num, bitOf, push}
+use Rattle.protocol.specs.Division.{dataBits, checkWidth, topBit, fits, byteOf}
+use Rattle.protocol.specs.Reader.{deaf, askR, askW, byteS, reads, writes, askP, asked, look}
 use Rattle.reader.specs.Code.{said, nothing, seenBy, seen}
 
 -- A bit as a number and back.

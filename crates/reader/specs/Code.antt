@@ -1,24 +1,25 @@
--- What the code's state is to line's reader, for the contracts of this crate: nothing here is needed to read what read promises.
+-- What the code's state is to protocol's reader, for the contracts of this crate: nothing here is needed to read what read promises.
 -- Every value of the code's types is some state of the definitions, so no contract asks anything of a state.
 use mathlib.Core.Path.{_≡_}
 use mathlib.Core.Bool.{Bool}
 use mathlib.Core.Option.{Option, none, some}
 use Prim.Native.Nat.{ℕ, _+_, _-_, _%_, _<_, min}
-use Rattle.line.specs.Limits.{idCount, lockFirst, lockLast, registerCount}
-use Rattle.line.specs.Bits.{bitOf}
-use Rattle.line.specs.Rest.{Timed, power, rest, frame}
-use Rattle.line.specs.Machine.{Turn}
-use Rattle.line.specs.Entries as line
-use Rattle.line.specs.Reader.{ones, upto, mixed, Phase, deaf, locks, head, askR, askW, byteS, reads, writes, askP, Look, begun, Step, stepped, step}
+use Rattle.protocol.specs.Limits.{idCount, lockFirst, lockLast, registerCount}
+use Rattle.protocol.specs.Bits.{bitOf}
+use Rattle.protocol.specs.Rest.{Timed, power, rest, frame}
+use Rattle.protocol.specs.Machine.{Turn}
+use Rattle.protocol.specs.Entries as entries
+use Rattle.protocol.specs.Reader as protocol
+use Rattle.protocol.specs.Reader.{ones, upto, mixed, deaf, locks, head, askR, askW, byteS, reads, writes, askP, Look, begun, Step, stepped, step}
 use Rattle.machine.specs.Zeros.{timed, judgedAt}
-use Rattle.reader.specs.declared.Kind.{Kind}
-use Rattle.reader.specs.declared.Kind.the-variants.{Power, Rest, Deaf, Ones, Upto, Mixed, Head, AskR, AskW, ByteS, Reads, Writes, AskP}
+use Rattle.reader.specs.declared.Phase.{Phase}
+use Rattle.reader.specs.declared.Phase.the-variants.{Power, Rest, Deaf, Ones, Upto, Mixed, Head, AskR, AskW, ByteS, Reads, Writes, AskP}
 use Rattle.reader.specs.declared.Body.{Body}
 use Rattle.reader.specs.declared.Reader.{Reader}
 use Rattle.reader.specs.declared.Event.{Event}
 use Rattle.reader.specs.declared.Stepped.{Stepped}
 
--- The ID as line's reader has it; the bound holds of every value that a step stores ..
+-- The ID as protocol's reader has it; the bound holds of every value that a step stores ..
 abbrev pub idOf : Body → ℕ
 idOf b = b .id % idCount
 
@@ -42,8 +43,8 @@ columnOf b = min (b .place) (lockLast - 1) + 1
 abbrev pub lockColumn : Body → ℕ
 lockColumn b = lockFirst + min (b .place) idCount
 
--- What a kind is with its numbers, no zeros counted ..
-abbrev pub formBy : Kind → Body → Timed Phase
+-- What a phase is with its numbers, no zeros counted ..
+abbrev pub formBy : Phase → Body → Timed protocol.Phase
 formBy Power b = power 0
 formBy Rest b = rest
 formBy Deaf b = frame 0 deaf
@@ -59,12 +60,12 @@ formBy Writes b = frame 0 (writes (idOf b) (addressOf b) (b .count) (b .place) (
 formBy AskP b = frame 0 (askP (bitOf (b .asked)) (idOf b) (addressOf b) (b .count))
 
 -- .. with as many zeros in a row as it saw just now ..
-abbrev pub stateBy : Kind → (zeros : ℕ) → Body → Timed Phase
-stateBy kind zeros b = timed zeros (formBy kind b)
+abbrev pub stateBy : Phase → (zeros : ℕ) → Body → Timed protocol.Phase
+stateBy phase zeros b = timed zeros (formBy phase b)
 
 -- .. and the state of a reader.
-unfoldable pub stateOf : Reader → Timed Phase
-stateOf r = stateBy (r .kind) (r .zeros) (r .body)
+unfoldable pub stateOf : Reader → Timed protocol.Phase
+stateOf r = stateBy (r .phase) (r .zeros) (r .body)
 
 -- An event by its fields; kind 0 is none.
 abbrev pub said : (kind id address value : ℕ) → Event
@@ -76,31 +77,31 @@ nothing = said 0 0 0 0
 
 -- The event of a frame's end.
 abbrev pub ending : Event
-ending = said (line.number line.Kind.end) 0 0 0
+ending = said (entries.number entries.Kind.end) 0 0 0
 
--- An event of line's, or none, as the code has it.
-abbrev pub eventOf : Option line.Event → Event
+-- An event of protocol's, or none, as the code has it.
+abbrev pub eventOf : Option entries.Event → Event
 eventOf none = nothing
-eventOf (some e) = said (line.number (e .kind)) (e .id) (e .address) (e .value)
+eventOf (some e) = said (entries.number (e .kind)) (e .id) (e .address) (e .value)
 
 -- Every field is a byte.
 abbrev pub small : Event → Type 0
 small e = (e .kind < 256) × (e .id < 256) × (e .address < 256) × (e .value < 256)
 
 -- What a phase makes of a column, with the event as the code has it: of its parts ..
-abbrev pub seenBy : Phase → Event → Turn Phase Event
+abbrev pub seenBy : protocol.Phase → Event → Turn protocol.Phase Event
 seenBy p e = record { next = p; says = e }
 
--- .. and of line's look.
-abbrev pub seen : Look → Turn Phase Event
+-- .. and of protocol's look.
+abbrev pub seen : Look → Turn protocol.Phase Event
 seen l = seenBy (l .next) (eventOf (l .says))
 
 -- What a step makes of a state, with the event as the code has it: ..
 pub record Moved : Type 0 where
-  pub state : Timed Phase
+  pub state : Timed protocol.Phase
   pub event : Event
 
--- .. line's step ..
+-- .. protocol's step ..
 unfoldable pub moved : Step → Moved
 moved s = record { state = s .state; event = eventOf (s .says) }
 
@@ -109,22 +110,22 @@ unfoldable pub after : Stepped → Moved
 after r = record { state = stateOf (r .next); event = r .event }
 
 -- A step of its parts: every field of its event is a byte.
-pub record Made (kind : Kind) (zeros : ℕ) (b : Body) (e : Event) (r : Stepped) : Type 0 where
-  pub made : r ≡ record { next = record { kind = kind; zeros = zeros; body = b }; event = e }
+pub record Made (phase : Phase) (zeros : ℕ) (b : Body) (e : Event) (r : Stepped) : Type 0 where
+  pub made : r ≡ record { next = record { phase = phase; zeros = zeros; body = b }; event = e }
   pub bytes : small e
 
--- What a kind's function promises, of a column that is not the fourteenth zero ..
-pub record Meets (kind : Kind) (zeros : ℕ) (b : Body) (m x : Bool) (r : Stepped) : Type 0 where
-  pub meets : after r ≡ moved (stepped (judgedAt begun (stateBy kind zeros b) m) m x)
+-- What a phase's function promises, of a column that is not the fourteenth zero ..
+pub record Meets (phase : Phase) (zeros : ℕ) (b : Body) (m x : Bool) (r : Stepped) : Type 0 where
+  pub meets : after r ≡ moved (stepped (judgedAt begun (stateBy phase zeros b) m) m x)
   pub bytes : small (r .event)
 
 -- .. and the event that the fourteenth gives.
-abbrev pub ended : Timed Phase → Event
+abbrev pub ended : Timed protocol.Phase → Event
 ended (power z) = nothing
 ended rest = nothing
 ended (frame z p) = ending
 
--- What step promises: line's step.
-pub record Steps (s : Timed Phase) (m x : Bool) (r : Stepped) : Type 0 where
+-- What step promises: protocol's step.
+pub record Steps (s : Timed protocol.Phase) (m x : Bool) (r : Stepped) : Type 0 where
   pub meets : after r ≡ moved (step s m x)
   pub bytes : small (r .event)

@@ -2,10 +2,10 @@
 ghost use mathlib.Core.Path.{_≡_};
 ghost use mathlib.Core.Bool.{false, Bool·beq};
 ghost use Prim.Native.Nat.{_+_, _*_, _≤_, _<_};
-ghost use Rattle.line.specs.Bits.{num, bitOf};
+ghost use Rattle.protocol.specs.Bits.{num, bitOf};
 ghost use Rattle.reader.specs.Code.{idOf, lockOf, Meets};
 use crate::Body;
-use crate::Kind;
+use crate::Phase;
 use crate::Stepped;
 use crate::made::LOCK_BOUND;
 use crate::made::gives;
@@ -16,36 +16,36 @@ use machine::REGISTERS;
 
 // R, with its answer, waits for W.
 pub fn ask_r(zeros: u64, body: Body, m: bool, x: bool) -> Stepped
-    ensures { λ r. ⌜ Meets Kind.AskR zeros body m x r ⌝ }
+    ensures { λ r. ⌜ Meets Phase.AskR zeros body m x r ⌝ }
 {
     let r = number(m);
     let y = number(x);
     let mut n = body;
     n.asked = r;
     n.answered = y;
-    go(Kind::AskW, zeros, n)
+    go(Phase::AskW, zeros, n)
 }
 
 // pair: "W's column, R = W".
 pub fn ask_w(zeros: u64, body: Body, m: bool, x: bool) -> Stepped
-    ensures { λ r. ⌜ Meets Kind.AskW zeros body m x r ⌝ }
+    ensures { λ r. ⌜ Meets Phase.AskW zeros body m x r ⌝ }
 {
     let r = body.asked == 1;
     let id = body.id % IDS;
     let address = body.address % REGISTERS;
     if r == m {
-        gives(Kind::Deaf, zeros, body, kinds::PAIR, id, address, 0)
+        gives(Phase::Deaf, zeros, body, kinds::PAIR, id, address, 0)
     } else if id < body.count % LOCK_BOUND {
-        answered(zeros, body, m, x)
+        accepted(zeros, body, m, x)
     } else {
         unlocked(zeros, body, m, x)
     }
 }
 
 // A locked ID: R and W repeated, or refused: "R repeated, W inverted".
-fn answered(zeros: u64, body: Body, m: bool, x: bool) -> Stepped
+fn accepted(zeros: u64, body: Body, m: bool, x: bool) -> Stepped
     requires { ⌜ (Bool·beq (bitOf (body .asked)) m ≡ false) × (idOf body < lockOf body) ⌝ }
-    ensures { λ r. ⌜ Meets Kind.AskW zeros body m x r ⌝ }
+    ensures { λ r. ⌜ Meets Phase.AskW zeros body m x r ⌝ }
 {
     let id = body.id % IDS;
     let address = body.address % REGISTERS;
@@ -57,27 +57,35 @@ fn answered(zeros: u64, body: Body, m: bool, x: bool) -> Stepped
             let mut n = body;
             n.asked = w;
             n.count = 1;
-            go(Kind::ByteS, zeros, n)
+            go(Phase::ByteS, zeros, n)
         } else {
-            gives(Kind::Deaf, zeros, body, kinds::REFUSED, id, address, w)
+            gives(Phase::Deaf, zeros, body, kinds::REFUSED, id, address, w)
         }
     } else {
-        gives(Kind::Deaf, zeros, body, kinds::ODD, id, address, both(y, x))
+        gives(
+            Phase::Deaf,
+            zeros,
+            body,
+            kinds::ODD,
+            id,
+            address,
+            both(y, x),
+        )
     }
 }
 
 // absent: "answered 0 0, ID not locked".
 fn unlocked(zeros: u64, body: Body, m: bool, x: bool) -> Stepped
     requires { ⌜ (Bool·beq (bitOf (body .asked)) m ≡ false) × (lockOf body ≤ idOf body) ⌝ }
-    ensures { λ r. ⌜ Meets Kind.AskW zeros body m x r ⌝ }
+    ensures { λ r. ⌜ Meets Phase.AskW zeros body m x r ⌝ }
 {
     let id = body.id % IDS;
     let address = body.address % REGISTERS;
     let value = both(body.answered == 1, x);
     if value == 0 {
-        gives(Kind::Deaf, zeros, body, kinds::ABSENT, id, address, 0)
+        gives(Phase::Deaf, zeros, body, kinds::ABSENT, id, address, 0)
     } else {
-        gives(Kind::Deaf, zeros, body, kinds::ODD, id, address, value)
+        gives(Phase::Deaf, zeros, body, kinds::ODD, id, address, value)
     }
 }
 

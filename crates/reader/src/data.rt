@@ -1,10 +1,10 @@
 // A byte of a register access: its S, its twelve bits, its P.
 ghost use mathlib.Core.Path.{_≡_};
 ghost use mathlib.Core.Bool.{_&&_, Bool·beq};
-ghost use Rattle.line.specs.Bits.{bitOf};
+ghost use Rattle.protocol.specs.Bits.{bitOf};
 ghost use Rattle.reader.specs.Code.{Meets};
 use crate::Body;
-use crate::Kind;
+use crate::Phase;
 use crate::Stepped;
 use crate::made::gives;
 use crate::made::go;
@@ -19,7 +19,7 @@ const LAST_ADDRESS: u64 = REGISTERS - 1;
 
 // mute: "S = 1 answered 0; deaf".
 pub fn byte_s(zeros: u64, body: Body, m: bool, x: bool) -> Stepped
-    ensures { λ r. ⌜ Meets Kind.ByteS zeros body m x r ⌝ }
+    ensures { λ r. ⌜ Meets Phase.ByteS zeros body m x r ⌝ }
 {
     let id = body.id % IDS;
     let address = body.address % REGISTERS;
@@ -30,21 +30,21 @@ pub fn byte_s(zeros: u64, body: Body, m: bool, x: bool) -> Stepped
     if m {
         if x {
             if body.asked == 1 {
-                go(Kind::Writes, zeros, n)
+                go(Phase::Writes, zeros, n)
             } else {
-                go(Kind::Reads, zeros, n)
+                go(Phase::Reads, zeros, n)
             }
         } else {
-            gives(Kind::Deaf, zeros, n, kinds::MUTE, id, address, 0)
+            gives(Phase::Deaf, zeros, n, kinds::MUTE, id, address, 0)
         }
     } else {
-        go(Kind::Deaf, zeros, n)
+        go(Phase::Deaf, zeros, n)
     }
 }
 
 // read, readbad: "last check column of a read, CDS check right, wrong".
 pub fn reads(zeros: u64, body: Body, m: bool, x: bool) -> Stepped
-    ensures { λ r. ⌜ Meets Kind.Reads zeros body m x r ⌝ }
+    ensures { λ r. ⌜ Meets Phase.Reads zeros body m x r ⌝ }
 {
     let word = checkbits::pushed(body.word, x);
     let value = word / CHECKS % 256;
@@ -54,20 +54,20 @@ pub fn reads(zeros: u64, body: Body, m: bool, x: bool) -> Stepped
     if body.place == 0 {
         n.asked = 0;
         if checkbits::byte_fits(word) {
-            gives(Kind::AskP, zeros, n, kinds::READ, id, address, value)
+            gives(Phase::AskP, zeros, n, kinds::READ, id, address, value)
         } else {
-            gives(Kind::AskP, zeros, n, kinds::READBAD, id, address, value)
+            gives(Phase::AskP, zeros, n, kinds::READBAD, id, address, value)
         }
     } else {
         n.place = body.place - 1;
         n.word = word;
-        go(Kind::Reads, zeros, n)
+        go(Phase::Reads, zeros, n)
     }
 }
 
 // written, writebad: "CDM check right, wrong". echo: "as 11, but the echo differs in some bit".
 pub fn writes(zeros: u64, body: Body, m: bool, x: bool) -> Stepped
-    ensures { λ r. ⌜ Meets Kind.Writes zeros body m x r ⌝ }
+    ensures { λ r. ⌜ Meets Phase.Writes zeros body m x r ⌝ }
 {
     let word = checkbits::pushed(body.word, m);
     let value = word / CHECKS % 256;
@@ -79,40 +79,40 @@ pub fn writes(zeros: u64, body: Body, m: bool, x: bool) -> Stepped
         n.asked = 1;
         if checkbits::byte_fits(word) {
             if same == 1 {
-                gives(Kind::AskP, zeros, n, kinds::WRITTEN, id, address, value)
+                gives(Phase::AskP, zeros, n, kinds::WRITTEN, id, address, value)
             } else {
-                gives(Kind::AskP, zeros, n, kinds::ECHO, id, address, value)
+                gives(Phase::AskP, zeros, n, kinds::ECHO, id, address, value)
             }
         } else {
-            gives(Kind::AskP, zeros, n, kinds::WRITEBAD, id, address, value)
+            gives(Phase::AskP, zeros, n, kinds::WRITEBAD, id, address, value)
         }
     } else {
         n.place = body.place - 1;
         n.word = word;
         n.answered = same;
-        go(Kind::Writes, zeros, n)
+        go(Phase::Writes, zeros, n)
     }
 }
 
 // closed: "P answered 1". odd: "P answered 0 at address 127 or the 64th byte (value 4)".
 pub fn ask_p(zeros: u64, body: Body, m: bool, x: bool) -> Stepped
-    ensures { λ r. ⌜ Meets Kind.AskP zeros body m x r ⌝ }
+    ensures { λ r. ⌜ Meets Phase.AskP zeros body m x r ⌝ }
 {
     let id = body.id % IDS;
     let address = body.address % REGISTERS;
     if x {
-        gives(Kind::Deaf, zeros, body, kinds::CLOSED, id, address, 0)
+        gives(Phase::Deaf, zeros, body, kinds::CLOSED, id, address, 0)
     } else if address < LAST_ADDRESS {
         if body.count < BYTES {
             let mut n = body;
             n.address = address + 1;
             n.count = body.count + 1;
-            go(Kind::ByteS, zeros, n)
+            go(Phase::ByteS, zeros, n)
         } else {
-            gives(Kind::Deaf, zeros, body, kinds::ODD, id, address, 4)
+            gives(Phase::Deaf, zeros, body, kinds::ODD, id, address, 4)
         }
     } else {
-        gives(Kind::Deaf, zeros, body, kinds::ODD, id, address, 4)
+        gives(Phase::Deaf, zeros, body, kinds::ODD, id, address, 4)
     }
 }
 

@@ -2,7 +2,7 @@
 ghost use Prim.Native.Nat.{_<_};
 ghost use Rattle.reader.specs.Code.{Meets};
 use crate::Body;
-use crate::Kind;
+use crate::Phase;
 use crate::Stepped;
 use crate::made::LOCK_BOUND;
 use crate::made::gives;
@@ -28,39 +28,39 @@ const COMMANDS: u64 = 4;
 
 // Before IDL0, or ones alone so far. lock: "or 9 if IDL8 is 1 after eight".
 pub fn ones(zeros: u64, body: Body, m: bool, x: bool) -> Stepped
-    ensures { λ r. ⌜ Meets Kind.Ones zeros body m x r ⌝ }
+    ensures { λ r. ⌜ Meets Phase.Ones zeros body m x r ⌝ }
 {
     let word = checkbits::pushed(body.word, m);
     let mut n = body;
     n.word = word;
     if body.place < IDL0 {
         n.place = body.place + 1;
-        go(Kind::Ones, zeros, n)
+        go(Phase::Ones, zeros, n)
     } else if body.place < IDL8 {
         n.place = body.place + 1;
         if x {
-            go(Kind::Ones, zeros, n)
+            go(Phase::Ones, zeros, n)
         } else {
             let idl = body.place - IDL0;
             n.place = idl + 1;
             n.count = idl;
-            go(Kind::Upto, zeros, n)
+            go(Phase::Upto, zeros, n)
         }
     } else {
         n.place = LOCK_LAST;
         if x {
             n.count = PAST_EIGHT;
-            gives(Kind::Head, zeros, n, kinds::LOCK, 0, 0, PAST_EIGHT)
+            gives(Phase::Head, zeros, n, kinds::LOCK, 0, 0, PAST_EIGHT)
         } else {
             n.count = IDS;
-            gives(Kind::Head, zeros, n, kinds::LOCK, 0, 0, IDS)
+            gives(Phase::Head, zeros, n, kinds::LOCK, 0, 0, IDS)
         }
     }
 }
 
 // Locks: ones and then zeros. lock: "how many of IDL0..7 are 1".
 pub fn upto(zeros: u64, body: Body, m: bool, x: bool) -> Stepped
-    ensures { λ r. ⌜ Meets Kind.Upto zeros body m x r ⌝ }
+    ensures { λ r. ⌜ Meets Phase.Upto zeros body m x r ⌝ }
 {
     let word = checkbits::pushed(body.word, m);
     let lock = body.count % LOCK_BOUND;
@@ -69,56 +69,56 @@ pub fn upto(zeros: u64, body: Body, m: bool, x: bool) -> Stepped
     if body.place < IDS {
         n.place = body.place + 1;
         if x {
-            go(Kind::Mixed, zeros, n)
+            go(Phase::Mixed, zeros, n)
         } else {
-            go(Kind::Upto, zeros, n)
+            go(Phase::Upto, zeros, n)
         }
     } else {
         n.place = LOCK_LAST;
         if x {
-            gives(Kind::Deaf, zeros, n, kinds::LOCKODD, 0, 0, 0)
+            gives(Phase::Deaf, zeros, n, kinds::LOCKODD, 0, 0, 0)
         } else {
-            gives(Kind::Head, zeros, n, kinds::LOCK, 0, 0, lock)
+            gives(Phase::Head, zeros, n, kinds::LOCK, 0, 0, lock)
         }
     }
 }
 
 // lockodd: "any other lock pattern; deaf".
 pub fn mixed(zeros: u64, body: Body, m: bool, x: bool) -> Stepped
-    ensures { λ r. ⌜ Meets Kind.Mixed zeros body m x r ⌝ }
+    ensures { λ r. ⌜ Meets Phase.Mixed zeros body m x r ⌝ }
 {
     if body.place < IDS {
         let word = checkbits::pushed(body.word, m);
         let mut n = body;
         n.word = word;
         n.place = body.place + 1;
-        go(Kind::Mixed, zeros, n)
+        go(Phase::Mixed, zeros, n)
     } else {
-        gives(Kind::Deaf, zeros, body, kinds::LOCKODD, 0, 0, 0)
+        gives(Phase::Deaf, zeros, body, kinds::LOCKODD, 0, 0, 0)
     }
 }
 
 // badhead, command: "last header column".
 pub fn head(zeros: u64, body: Body, m: bool, x: bool) -> Stepped
-    ensures { λ r. ⌜ Meets Kind.Head zeros body m x r ⌝ }
+    ensures { λ r. ⌜ Meets Phase.Head zeros body m x r ⌝ }
 {
     let word = checkbits::pushed(body.word, m);
     let mut n = body;
     if body.place < LAST {
         n.word = word;
         n.place = body.place + 1;
-        go(Kind::Head, zeros, n)
+        go(Phase::Head, zeros, n)
     } else if checkbits::header_fits(word) {
         let v = word / CHECKS;
         if v / CTS % 2 == 1 {
             n.id = v / REGISTERS % IDS;
             n.address = v % REGISTERS;
-            go(Kind::AskR, zeros, n)
+            go(Phase::AskR, zeros, n)
         } else {
             let ids = v / COMMANDS % 256;
-            gives(Kind::Deaf, zeros, n, kinds::COMMAND, v % COMMANDS, 0, ids)
+            gives(Phase::Deaf, zeros, n, kinds::COMMAND, v % COMMANDS, 0, ids)
         }
     } else {
-        gives(Kind::Deaf, zeros, n, kinds::BADHEAD, 0, 0, 0)
+        gives(Phase::Deaf, zeros, n, kinds::BADHEAD, 0, 0, 0)
     }
 }

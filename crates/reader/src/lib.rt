@@ -1,12 +1,12 @@
-// The reader's step (01, Entries): one column in, the next state and perhaps an event out. Kind and Body say where in a frame the
-// reader is; what a field holds in a kind that does not use it never matters.
+// The reader's step (01, Entries): one column in, the next state and perhaps an event out. Phase and Body say where in a frame the
+// reader is; what a field holds in a phase that does not use it never matters.
 mod access;
 mod data;
 mod header;
 mod made;
 
 ghost use mathlib.Core.Path.{_≡_};
-ghost use Rattle.line.specs.Rest.{powerOn};
+ghost use Rattle.protocol.specs.Rest.{powerOn};
 ghost use Rattle.reader.specs.Code.{formBy, stateOf, Made, Meets, ended, Steps};
 use access::ask_r;
 use access::ask_w;
@@ -22,7 +22,7 @@ use machine::REST;
 use made::go;
 use made::rests;
 
-pub enum Kind {
+pub enum Phase {
     Power,
     Rest,
     Deaf,
@@ -58,7 +58,7 @@ pub struct Body {
 }
 
 pub struct Reader {
-    pub kind: Kind,
+    pub phase: Phase,
     // The zeros in a row just now.
     pub zeros: u64,
     pub body: Body,
@@ -92,7 +92,7 @@ impl Reader {
             answered: 0,
         };
         Reader {
-            kind: Kind::Power,
+            phase: Phase::Power,
             zeros: 0,
             body: body,
         }
@@ -102,60 +102,60 @@ impl Reader {
     pub fn step(self, m: bool, x: bool) -> Stepped
         ensures { λ r. ⌜ Steps (stateOf self) m x r ⌝ }
     {
-        let kind = self.kind;
+        let phase = self.phase;
         let body = self.body;
         let zeros = machine::counted(self.zeros, m);
         if zeros < REST {
-            goes_on(kind, zeros, body, m, x)
+            goes_on(phase, zeros, body, m, x)
         } else {
-            fourteenth(kind, body)
+            fourteenth(phase, body)
         }
     }
 }
 
 // end: "the fourteenth zero after a frame was begun".
-fn fourteenth(kind: Kind, body: Body) -> Stepped
-    ensures { λ r. ⌜ Made Kind.Rest 0 body (ended (formBy kind body)) r ⌝ }
+fn fourteenth(phase: Phase, body: Body) -> Stepped
+    ensures { λ r. ⌜ Made Phase.Rest 0 body (ended (formBy phase body)) r ⌝ }
 {
-    match kind {
-        Kind::Power => rests(body, kinds::NONE),
-        Kind::Rest => rests(body, kinds::NONE),
+    match phase {
+        Phase::Power => rests(body, kinds::NONE),
+        Phase::Rest => rests(body, kinds::NONE),
         _ => rests(body, kinds::END),
     }
 }
 
 // A column that is no fourteenth zero.
-fn goes_on(kind: Kind, zeros: u64, body: Body, m: bool, x: bool) -> Stepped
-    ensures { λ r. ⌜ Meets kind zeros body m x r ⌝ }
+fn goes_on(phase: Phase, zeros: u64, body: Body, m: bool, x: bool) -> Stepped
+    ensures { λ r. ⌜ Meets phase zeros body m x r ⌝ }
 {
-    match kind {
-        Kind::Power => go(Kind::Power, zeros, body),
-        Kind::Rest => rest(zeros, body, m, x),
-        Kind::Deaf => go(Kind::Deaf, zeros, body),
-        Kind::Ones => ones(zeros, body, m, x),
-        Kind::Upto => upto(zeros, body, m, x),
-        Kind::Mixed => mixed(zeros, body, m, x),
-        Kind::Head => head(zeros, body, m, x),
-        Kind::AskR => ask_r(zeros, body, m, x),
-        Kind::AskW => ask_w(zeros, body, m, x),
-        Kind::ByteS => byte_s(zeros, body, m, x),
-        Kind::Reads => reads(zeros, body, m, x),
-        Kind::Writes => writes(zeros, body, m, x),
-        Kind::AskP => ask_p(zeros, body, m, x),
+    match phase {
+        Phase::Power => go(Phase::Power, zeros, body),
+        Phase::Rest => rest(zeros, body, m, x),
+        Phase::Deaf => go(Phase::Deaf, zeros, body),
+        Phase::Ones => ones(zeros, body, m, x),
+        Phase::Upto => upto(zeros, body, m, x),
+        Phase::Mixed => mixed(zeros, body, m, x),
+        Phase::Head => head(zeros, body, m, x),
+        Phase::AskR => ask_r(zeros, body, m, x),
+        Phase::AskW => ask_w(zeros, body, m, x),
+        Phase::ByteS => byte_s(zeros, body, m, x),
+        Phase::Reads => reads(zeros, body, m, x),
+        Phase::Writes => writes(zeros, body, m, x),
+        Phase::AskP => ask_p(zeros, body, m, x),
     }
 }
 
 // Start: "The first 1 after rest is the start bit S". What `place` and `word` hold at rest does not matter: both are set in any case, so
 // that the compiler makes no branch of it.
 fn rest(zeros: u64, body: Body, m: bool, x: bool) -> Stepped
-    ensures { λ r. ⌜ Meets Kind.Rest zeros body m x r ⌝ }
+    ensures { λ r. ⌜ Meets Phase.Rest zeros body m x r ⌝ }
 {
     let mut n = body;
     n.place = 0;
     n.word = 0;
     if m {
-        go(Kind::Ones, 0, n)
+        go(Phase::Ones, 0, n)
     } else {
-        go(Kind::Rest, 0, n)
+        go(Phase::Rest, 0, n)
     }
 }

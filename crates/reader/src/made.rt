@@ -1,11 +1,11 @@
 // What every column's function is made of: the next state with an event or none, and bits as numbers.
 ghost use mathlib.Core.Path.{_≡_};
 ghost use Prim.Native.Nat.{_<_};
-ghost use Rattle.line.specs.Bits.{num};
+ghost use Rattle.protocol.specs.Bits.{num};
 ghost use Rattle.reader.specs.Code.{said, nothing, small, Made};
 use crate::Body;
 use crate::Event;
-use crate::Kind;
+use crate::Phase;
 use crate::Reader;
 use crate::Stepped;
 
@@ -13,15 +13,15 @@ use crate::Stepped;
 pub const LOCK_BOUND: u64 = 16;
 
 // A next state, and nothing to list.
-pub fn go(kind: Kind, zeros: u64, body: Body) -> Stepped
-    ensures { λ r. ⌜ Made kind zeros body nothing r ⌝ }
+pub fn go(phase: Phase, zeros: u64, body: Body) -> Stepped
+    ensures { λ r. ⌜ Made phase zeros body nothing r ⌝ }
 {
-    gives(kind, zeros, body, kinds::NONE, 0, 0, 0)
+    gives(phase, zeros, body, kinds::NONE, 0, 0, 0)
 }
 
 // A next state, and an event.
 pub fn gives(
-    kind: Kind,
+    phase: Phase,
     zeros: u64,
     body: Body,
     number: u64,
@@ -30,10 +30,10 @@ pub fn gives(
     value: u64,
 ) -> Stepped
     requires { ⌜ small (said number id address value) ⌝ }
-    ensures { λ r. ⌜ Made kind zeros body (said number id address value) r ⌝ }
+    ensures { λ r. ⌜ Made phase zeros body (said number id address value) r ⌝ }
 {
     let next = Reader {
-        kind: kind,
+        phase: phase,
         zeros: zeros,
         body: body,
     };
@@ -52,9 +52,9 @@ pub fn gives(
 // At rest, and an event of no field or none.
 pub fn rests(body: Body, number: u64) -> Stepped
     requires { ⌜ number < 256 ⌝ }
-    ensures { λ r. ⌜ Made Kind.Rest 0 body (said number 0 0 0) r ⌝ }
+    ensures { λ r. ⌜ Made Phase.Rest 0 body (said number 0 0 0) r ⌝ }
 {
-    gives(Kind::Rest, 0, body, number, 0, 0, 0)
+    gives(Phase::Rest, 0, body, number, 0, 0, 0)
 }
 
 pub fn number(bit: bool) -> u64

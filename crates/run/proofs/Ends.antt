@@ -6,7 +6,7 @@ use mathlib.Core.Option.{none}
 use Prim.Native.Nat.{ℕ, _≤_}
 use borrow.Author.Tests.{ltb-false, eqb-true, not-false}
 use lib.ListN.{length}
-use Rattle.line.specs.Limits.{columnLimit}
+use Rattle.protocol.specs.Limits.{columnLimit}
 use Rattle.job.specs.Bytes.{areBits}
 use Rattle.job.specs.Refusals.{first, given}
 use Rattle.job.specs.Rows.{rowRules, wrongRow}

@@ -6,13 +6,13 @@ use Prim.Native.Nat.{ℕ, zero, suc, _+_, _-_, _*_, _≤_, _<_}
 use native.Mathlib.Omega.{arith}
 use lib.ListN.{length, length-map, length-append, length-drop, take, drop, replicate}
 use lib.Seq.{drop-drop, take-all, length-take-le, take-at, drop-at}
-use Rattle.line.specs.Limits.{registerCount}
-use Rattle.line.specs.Bits.{num, bitOf, rowOf}
-use Rattle.line.specs.Slave as line
-use Rattle.line.specs.Chain.{switchedOn, memories, answersFrom, memoriesAfter}
+use Rattle.protocol.specs.Limits.{registerCount}
+use Rattle.protocol.specs.Bits.{num, bitOf, rowOf}
+use Rattle.protocol.specs.Slave as protocol
+use Rattle.protocol.specs.Chain.{switchedOn, memories, answersFrom, memoriesAfter}
 use Rattle.run.specs.Run.{memoriesOf, registersOf}
 use Rattle.run.specs.Parts.{sentBy, newBy, Passed, Rowed}
-use Rattle.run.proofs.Turned.{allSent, allLeft, answers-turned, after-turned}
+use Rattle.run.proofs.Turned.{allSent, allAfter, answers-turned, after-turned}
 
 -- A row's bytes are its bits.
 pub row-num : (bs : List Bool) → rowOf (map num bs) ≡ bs
@@ -40,7 +40,7 @@ past-next i bytes =
     rw e at (drop-drop registerCount (registerCount * i) bytes)
 
 -- The slaves that have yet to go over the row, at power-on.
-unfoldable pub waiting : (n i : ℕ) (registers rights : List ℕ) → List line.Slave
+unfoldable pub waiting : (n i : ℕ) (registers rights : List ℕ) → List protocol.Slave
 waiting n i registers rights = switchedOn (memoriesOf (n - i) (past i registers) (past i rights))
 
 waiting-next : (n i : ℕ) (registers rights : List ℕ) → i < n
@@ -59,7 +59,7 @@ waiting-none n i registers rights h = let e : n - i ≡ 0 = omega arith in rw e
 unfoldable pub gathered : (n i : ℕ) (registers rights cdm cds : List ℕ) → List ℕ
 gathered n i registers rights cdm cds =
     take (registerCount * i) registers
-    ++ registersOf (memories (allLeft (waiting n i registers rights) (rowOf cdm) (rowOf cds)))
+    ++ registersOf (memories (allAfter (waiting n i registers rights) (rowOf cdm) (rowOf cds)))
 
 -- At first all are waiting, and the bits are 0.
 module _ (n : ℕ) (registers rights cdm : List ℕ) where
@@ -126,7 +126,7 @@ module _ {n i k : ℕ} {registers rights cdm cds part cds′ : List ℕ} (gone :
   unfolding waiting
   others = rw behind
 
-  abbrev this : line.Slave
+  abbrev this : protocol.Slave
   this = newBy (take registerCount (past i registers)) (take registerCount (past i rights))
 
   this-gone : Passed (take registerCount (past i rights)) (take registerCount (past i registers)) cdm cds part cds′
@@ -149,9 +149,9 @@ module _ {n i k : ℕ} {registers rights cdm cds part cds′ : List ℕ} (gone :
   sent-next = rw (waiting-next n i registers rights (gone .small), others, bits)
 
   pub gathered-next : gathered n i registers rights cdm cds ≡ gathered n (i + 1) stored rights cdm cds′
-  unfolding gathered allLeft registersOf
+  unfolding gathered allAfter registersOf
   gathered-next =
-      rw (waiting-next n i registers rights (gone .small), others, bits, before, append-assoc, ← this-gone .left)
+      rw (waiting-next n i registers rights (gone .small), others, bits, before, append-assoc, ← this-gone .memory-after)
 
 -- At last none are waiting.
 pub rowed : (n : ℕ) (rights registers cdm registers′ cds′ : List ℕ) (i : ℕ) → n ≤ i → length registers′ ≤ registerCount * i
@@ -159,7 +159,7 @@ pub rowed : (n : ℕ) (rights registers cdm registers′ cds′ : List ℕ) (i :
     → allSent (waiting n i registers′ rights) (rowOf cdm) (rowOf cds′) ≡ answersFrom (memoriesOf n registers rights) (rowOf cdm)
     → gathered n i registers′ rights cdm cds′ ≡ registersOf (memoriesAfter (memoriesOf n registers rights) (rowOf cdm))
     → Rowed n rights registers cdm registers′ cds′
-unfolding allSent allLeft gathered registersOf
+unfolding allSent allAfter gathered registersOf
 rowed n rights registers cdm registers′ cds′ i h l b a g =
     let none : waiting n i registers′ rights ≡ [] = waiting-none n i registers′ rights h in
     record {

@@ -8,35 +8,35 @@ use native.Mathlib.Omega.{arith}
 use mir.Val.{boolByte}
 use lib.ListN.{length, take, drop, getD, set, replicate, replicate-append-replicate, drop-of-length-le}
 use lib.Seq.{drop-cons, take-all, take-suc-set, drop-set-lt}
-use Rattle.line.specs.Bits.{num, bitOf, rowOf}
-use Rattle.line.specs.Memory.{stored}
-use Rattle.line.specs.Slave as line
-use Rattle.line.proofs.Dress.{stepTo}
-use Rattle.slave.specs.Code.{stateOf, placeOf, Shows, Steps}
+use Rattle.protocol.specs.Bits.{num, bitOf, rowOf}
+use Rattle.protocol.specs.Memory.{stored}
+use Rattle.protocol.specs.Slave as protocol
+use Rattle.protocol.proofs.Dress.{stepTo}
+use Rattle.slave.specs.Code.{stateOf, addressOf, SeenIn, Steps}
 use Rattle.slave.specs.declared.Slave.{Slave}
 use Rattle.slave.specs.declared.Seen.{Seen}
 use Rattle.slave.specs.declared.Turn.{Turn}
-use Rattle.run.specs.Parts.{sentBy, leftBy, memoryBy, newBy, Passed}
+use Rattle.run.specs.Parts.{sentBy, afterBy, memoryBy, newBy, Passed}
 
 bool-num : (b : Bool) → boolByte b ≡ num b
 bool-num true = refl
 bool-num false = refl
 
 -- The step of the code is a step over the slave's own registers and rights.
-pub own-step : (registers rights : List ℕ) (s : Slave) (p : ℕ) (m b : Bool) (r : Turn) → p ≡ placeOf s
+pub own-step : (registers rights : List ℕ) (s : Slave) (p : ℕ) (m b : Bool) (r : Turn) → p ≡ addressOf s
     → Steps s (record { master = m; far = b; right = getD rights p 0; byte = getD registers p 0 }) r
-    → line.step (line.slave (memoryBy registers rights) (stateOf s)) m b
+    → protocol.step (protocol.slave (memoryBy registers rights) (stateOf s)) m b
     ≡ stepTo (memoryBy (set registers p (r .byte)) rights) (stateOf (r .next)) (r .sent)
 unfolding stored
 own-step registers rights s p m b r here steps =
     let seen : Seen = record { master = m; far = b; right = getD rights p 0; byte = getD registers p 0 } in
-    let shows : Shows (memoryBy registers rights) p seen = record { right-there = refl; byte-there = refl } in
+    let there : SeenIn (memoryBy registers rights) p seen = record { right-there = refl; byte-there = refl } in
     rw here
-    (steps .over (memoryBy registers rights) (subst (λ (q : ℕ). Shows (memoryBy registers rights) q seen) here shows))
+    (steps .over (memoryBy registers rights) (subst (λ (q : ℕ). SeenIn (memoryBy registers rights) q seen) here there))
 
 -- A column: what is sent goes over to what was sent.
-module _ (s : line.Slave) (t : line.Step) (cdm cds : List ℕ) (i : ℕ) (small : i < length cdm) (room : i < length cds)
-    (stepped : line.step s (bitOf (getD cdm i 0)) (bitOf (getD cds i 0)) ≡ t) where
+module _ (s : protocol.Slave) (t : protocol.Step) (cdm cds : List ℕ) (i : ℕ) (small : i < length cdm) (room : i < length cds)
+    (stepped : protocol.step s (bitOf (getD cdm i 0)) (bitOf (getD cds i 0)) ≡ t) where
   abbrev sent : Bool
   sent = t .says .sent
 
@@ -45,7 +45,7 @@ module _ (s : line.Slave) (t : line.Step) (cdm cds : List ℕ) (i : ℕ) (small 
 
   pub sent-next : take i cds ++ map num (sentBy s (rowOf (drop i cdm)) (rowOf (drop i cds)))
       ≡ take (i + 1) (set cds i (boolByte sent))
-      ++ map num (sentBy (line.leaves t) (rowOf (drop (i + 1) cdm)) (rowOf (drop (i + 1) (set cds i (boolByte sent)))))
+      ++ map num (sentBy (protocol.slaveOf t) (rowOf (drop (i + 1) cdm)) (rowOf (drop (i + 1) (set cds i (boolByte sent)))))
   unfolding rowOf sentBy
   sent-next =
       rw (
@@ -59,26 +59,26 @@ module _ (s : line.Slave) (t : line.Step) (cdm cds : List ℕ) (i : ℕ) (small 
         bool-num sent,
       )
 
-  pub left-next : leftBy s (rowOf (drop i cdm)) (rowOf (drop i cds))
-      ≡ leftBy (line.leaves t) (rowOf (drop (i + 1) cdm)) (rowOf (drop (i + 1) (set cds i (boolByte sent))))
-  unfolding rowOf leftBy
-  left-next =
+  pub after-next : afterBy s (rowOf (drop i cdm)) (rowOf (drop i cds))
+      ≡ afterBy (protocol.slaveOf t) (rowOf (drop (i + 1) cdm)) (rowOf (drop (i + 1) (set cds i (boolByte sent))))
+  unfolding rowOf afterBy
+  after-next =
       rw (drop-cons cdm i 0 small, drop-cons cds i 0 room, add-one, behind)
-      (ap (λ (r : line.Step). leftBy (line.leaves r) (rowOf (drop (suc i) cdm)) (rowOf (drop (suc i) cds))) stepped)
+      (ap (λ (r : protocol.Step). afterBy (protocol.slaveOf r) (rowOf (drop (suc i) cdm)) (rowOf (drop (suc i) cds))) stepped)
 
 -- Past the last column.
 pub passed : (rights registers cdm cds registers′ cds′ : List ℕ) (s : Slave) (i : ℕ) → length cdm ≤ i → length cds′ ≤ i
-    → take i cds′ ++ map num (sentBy (line.slave (memoryBy registers′ rights) (stateOf s)) (rowOf (drop i cdm)) (rowOf (drop i cds′)))
+    → take i cds′ ++ map num (sentBy (protocol.slave (memoryBy registers′ rights) (stateOf s)) (rowOf (drop i cdm)) (rowOf (drop i cds′)))
     ≡ map num (sentBy (newBy registers rights) (rowOf cdm) (rowOf cds))
-    → leftBy (line.slave (memoryBy registers′ rights) (stateOf s)) (rowOf (drop i cdm)) (rowOf (drop i cds′))
-    ≡ leftBy (newBy registers rights) (rowOf cdm) (rowOf cds)
+    → afterBy (protocol.slave (memoryBy registers′ rights) (stateOf s)) (rowOf (drop i cdm)) (rowOf (drop i cds′))
+    ≡ afterBy (newBy registers rights) (rowOf cdm) (rowOf cds)
     → Passed rights registers cdm cds registers′ cds′
-unfolding rowOf sentBy leftBy
+unfolding rowOf sentBy afterBy
 passed rights registers cdm cds registers′ cds′ s i past full a e =
     let ends : drop i cdm ≡ [] = drop-of-length-le cdm past in
     record {
       sent = sym (append-nil cds′) ∙ rw (ends, take-all i cds′ full) at a;
-      left = ap (λ (l : line.Slave). l .memory) (rw ends at e);
+      memory-after = ap (λ (l : protocol.Slave). l .memory) (rw ends at e);
     }
 
 -- One byte more is 0.

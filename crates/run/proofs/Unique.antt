@@ -1,4 +1,4 @@
--- The promise of run has one answer: two results that meet it are equal, with every lent byte. Assumes nothing.
+-- The promise of run has one result: two results that meet it are equal, with every lent byte. Assumes nothing.
 use mathlib.Core.Path.{_≡_}
 use mathlib.Core.List.{List}
 use Prim.Native.Nat.{ℕ}

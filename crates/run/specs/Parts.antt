@@ -1,37 +1,37 @@
 -- One slave over a whole row, and the slaves one after the other, as the code takes them: nothing here is needed to read what run
--- promises. That this is line's chain, which goes column by column, is proved (proofs/Turned).
+-- promises. That this is protocol's chain, which goes column by column, is proved (proofs/Turned).
 use mathlib.Core.Path.{_≡_}
 use mathlib.Core.Bool.{Bool}
 use mathlib.Core.List.{List, [], _∷_, map}
 use Prim.Native.Nat.{ℕ, _*_, _≤_}
 use lib.ListN.{length}
-use Rattle.line.specs.Limits.{slaveLimit, registerCount}
-use Rattle.line.specs.Bits.{num, rowOf}
-use Rattle.line.specs.Rest.{powerOn}
-use Rattle.line.specs.Memory.{Memory}
-use Rattle.line.specs.Slave as line
-use Rattle.line.specs.Chain.{answersFrom, memoriesAfter}
+use Rattle.protocol.specs.Limits.{slaveLimit, registerCount}
+use Rattle.protocol.specs.Bits.{num, rowOf}
+use Rattle.protocol.specs.Rest.{powerOn}
+use Rattle.protocol.specs.Memory.{Memory}
+use Rattle.protocol.specs.Slave as protocol
+use Rattle.protocol.specs.Chain.{answersFrom, memoriesAfter}
 use Rattle.run.specs.Run.{memoriesOf, registersOf}
 
 -- The bits that a slave sends, from the master's and its far neighbour's ..
-unfoldable pub sentBy : line.Slave → (ms bs : List Bool) → List Bool
+unfoldable pub sentBy : protocol.Slave → (ms bs : List Bool) → List Bool
 sentBy s [] bs = []
 sentBy s (m ∷ ms) [] = []
-sentBy s (m ∷ ms) (b ∷ bs) = let t : line.Step = line.step s m b in t .says .sent ∷ sentBy (line.leaves t) ms bs
+sentBy s (m ∷ ms) (b ∷ bs) = let t : protocol.Step = protocol.step s m b in t .says .sent ∷ sentBy (protocol.slaveOf t) ms bs
 
 -- .. and what it is then.
-unfoldable pub leftBy : line.Slave → (ms bs : List Bool) → line.Slave
-leftBy s [] bs = s
-leftBy s (m ∷ ms) [] = s
-leftBy s (m ∷ ms) (b ∷ bs) = leftBy (line.leaves (line.step s m b)) ms bs
+unfoldable pub afterBy : protocol.Slave → (ms bs : List Bool) → protocol.Slave
+afterBy s [] bs = s
+afterBy s (m ∷ ms) [] = s
+afterBy s (m ∷ ms) (b ∷ bs) = afterBy (protocol.slaveOf (protocol.step s m b)) ms bs
 
 -- A slave's memory, of its registers and rights ..
 abbrev pub memoryBy : (registers rights : List ℕ) → Memory
 memoryBy registers rights = record { registers = registers; rights = rights }
 
 -- .. and that slave at power-on.
-abbrev pub newBy : (registers rights : List ℕ) → line.Slave
-newBy registers rights = line.slave (memoryBy registers rights) powerOn
+abbrev pub newBy : (registers rights : List ℕ) → protocol.Slave
+newBy registers rights = protocol.slave (memoryBy registers rights) powerOn
 
 -- The lent registers and rights hold so many slaves.
 pub record Holds (slaves : ℕ) (registers rights : List ℕ) : Type 0 where
@@ -42,7 +42,7 @@ pub record Holds (slaves : ℕ) (registers rights : List ℕ) : Type 0 where
 -- One slave over a row: in `cds` its far neighbour's bits, and its own afterwards.
 pub record Passed (rights registers cdm cds registers′ cds′ : List ℕ) : Type 0 where
   pub sent : cds′ ≡ map num (sentBy (newBy registers rights) (rowOf cdm) (rowOf cds))
-  pub left : memoryBy registers′ rights ≡ leftBy (newBy registers rights) (rowOf cdm) (rowOf cds) .memory
+  pub memory-after : memoryBy registers′ rights ≡ afterBy (newBy registers rights) (rowOf cdm) (rowOf cds) .memory
 
 -- A whole row from power-on.
 pub record Rowed (count : ℕ) (rights registers cdm registers′ cds′ : List ℕ) : Type 0 where

@@ -1,13 +1,13 @@
--- The job run: a chain of slaves over a master row; when it refuses, and what it leaves. The chain itself is line's (specs/Chain).
+-- The job run: a chain of slaves over a master row; when it refuses, and what it leaves. The chain itself is protocol's (specs/Chain).
 use mathlib.Core.Bool.{not}
 use mathlib.Core.List.{List, [], _∷_, _++_, map}
 use Prim.Native.Nat.{ℕ, zero, suc, _*_}
 use lib.Dec.{ltb, eqb}
 use lib.ListN.{length, take, drop}
-use Rattle.line.specs.Limits.{slaveLimit, registerCount}
-use Rattle.line.specs.Bits.{num, rowOf}
-use Rattle.line.specs.Memory.{Memory}
-use Rattle.line.specs.Chain.{answersFrom, memoriesAfter}
+use Rattle.protocol.specs.Limits.{slaveLimit, registerCount}
+use Rattle.protocol.specs.Bits.{num, rowOf}
+use Rattle.protocol.specs.Memory.{Memory}
+use Rattle.protocol.specs.Chain.{answersFrom, memoriesAfter}
 use Rattle.job.specs.Bytes.{noneAbove}
 use Rattle.job.specs.Refusals.{Rule, when, lent, Ended}
 use Rattle.job.specs.Rows.{wrongRow}
@@ -35,11 +35,11 @@ refusals slaves registers rights cdm columns =
     ∷ when (not (noneAbove 3 rights)) 4
     ∷ wrongRow cdm columns
 
--- What run answers, in columns, and what it leaves in the lent registers and in the lent answer row.
-pub record Ran (slaves : ℕ) (rights registers cdm cds : List ℕ) (answer : Outcome) (registers′ cds′ : List ℕ) : Type 0 where
+-- What run returns, in columns, and what it leaves in the lent registers and in the lent answer row.
+pub record Ran (slaves : ℕ) (rights registers cdm cds : List ℕ) (outcome : Outcome) (registers′ cds′ : List ℕ) : Type 0 where
   pub ends :
       Ended (refusals slaves (length registers) rights cdm (length cds)) (length cdm)
       (lent (registersOf (memoriesAfter (memoriesOf slaves registers rights) (rowOf cdm))) registers
       ∷ lent (map num (answersFrom (memoriesOf slaves registers rights) (rowOf cdm))) cds
       ∷ [])
-      answer (registers′ ∷ cds′ ∷ [])
+      outcome (registers′ ∷ cds′ ∷ [])

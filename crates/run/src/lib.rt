@@ -1,8 +1,8 @@
-// The job run: a chain of 0 to 16 slaves over a master row. It answers Made with the number of columns, or Refused with 1 to 7 and
+// The job run: a chain of 0 to 16 slaves over a master row. It returns Made with the number of columns, or Refused with 1 to 7 and
 // every lent byte as it was.
 ghost use mathlib.Core.Path.{_≡_};
 ghost use lib.ListN.{length, replicate};
-ghost use Rattle.line.specs.Limits.{registerCount};
+ghost use Rattle.protocol.specs.Limits.{registerCount};
 ghost use Rattle.job.specs.Refusals.{first, given};
 ghost use Rattle.run.specs.Run.{refusals, Ran};
 ghost use Rattle.run.specs.Parts.{Holds, Passed, Rowed};
@@ -98,7 +98,7 @@ fn pass_slave(rights: &[u8], registers: &mut [u8], cdm: &[u8], cds: &mut [u8])
             let next = slave.heard(master);
             slave = next;
         } else {
-            let at = slave.place();
+            let at = slave.address();
             let seen = Seen {
                 master: master,
                 far: far,

@@ -7,35 +7,35 @@ use native.Mathlib.Nat.{mod-mod}
 use native.Mathlib.Omega.{arith}
 use borrow.Author.Tests.{lt-ltb, le-ltb, eq-eqb, ne-eqb, ltb-false}
 use lib.Dec.{ltb, eqb}
-use Rattle.line.specs.Limits.{headerColumns, idCount, lockFirst, lockLast, registerCount}
-use Rattle.line.specs.Bits.{bit, push}
-use Rattle.line.specs.Division.{headerBits, checkWidth, fits}
-use Rattle.line.specs.Header.{access, header}
-use Rattle.line.specs.Memory.{Memory}
-use Rattle.line.specs.Slave as line
+use Rattle.protocol.specs.Limits.{headerColumns, idCount, lockFirst, lockLast, registerCount}
+use Rattle.protocol.specs.Bits.{bit, push}
+use Rattle.protocol.specs.Division.{headerBits, checkWidth, fits}
+use Rattle.protocol.specs.Header.{access, header}
+use Rattle.protocol.specs.Memory.{Memory}
+use Rattle.protocol.specs.Slave as protocol
 use Rattle.slave.specs.Code.{numberOf, nextColumn, lockedAs, CalledAs}
 
-abbrev lockBy : ℕ → Bool → line.Lock
+abbrev lockBy : ℕ → Bool → protocol.Lock
 lockBy number sent = record { number = numberOf number; sent = sent }
 
 -- Locks, one slave: with a number; without one, where a slave before it sends 1; before the locks; a number taken; past them.
 module _ (column number : ℕ) where
   pub lock-holds : (far : Bool) → number < idCount → lockBy number far ≡ lockedAs column number far
-  unfolding lockedAs line.lock
+  unfolding lockedAs protocol.lock
   lock-holds far h = rw (lt-ltb number idCount h)
 
   pub lock-passes : {far : Bool} → idCount ≤ number → far ≡ true → lockBy number true ≡ lockedAs column number far
-  unfolding lockedAs line.lock
+  unfolding lockedAs protocol.lock
   lock-passes h e = rw (e, le-ltb number idCount h)
 
   pub lock-before : {far : Bool} → idCount ≤ number → far ≡ false → column < lockFirst
       → lockBy number false ≡ lockedAs column number far
-  unfolding lockedAs line.lock
+  unfolding lockedAs protocol.lock
   lock-before h e l = rw (e, le-ltb number idCount h, lt-ltb (min column headerColumns) lockFirst (omega arith))
 
   pub lock-takes : {far : Bool} → idCount ≤ number → far ≡ false → lockFirst ≤ column → column < lockLast
       → lockBy (column - lockFirst) true ≡ lockedAs column number far
-  unfolding lockedAs line.lock
+  unfolding lockedAs protocol.lock
   lock-takes h e l u =
       let same : min column headerColumns ≡ column = omega arith in
       rw (
@@ -49,7 +49,7 @@ module _ (column number : ℕ) where
 
   pub lock-past : {far : Bool} → idCount ≤ number → far ≡ false → lockLast ≤ column
       → lockBy number true ≡ lockedAs column number far
-  unfolding lockedAs line.lock
+  unfolding lockedAs protocol.lock
   lock-past h e l =
       rw (
         e,
@@ -61,18 +61,18 @@ module _ (column number : ℕ) where
 -- A column of the locks: one of IDL0 to IDL7, and IDL8's, which leads to the rest of the header.
 module _ (k : Memory) (column w number : ℕ) (m b : Bool) {w′ : ℕ} {number′ : Option ℕ} {sent : Bool} where
   pub locks-on : w′ ≡ push w m → record { number = number′; sent = sent } ≡ lockedAs column number b → column < lockLast
-      → line.speak k (line.locks (min column headerColumns) w (numberOf number)) m b
-      ≡ line.turn (line.locks (min (column + 1) headerColumns) w′ number′) sent k
-  unfolding line.speak lockedAs
+      → protocol.speak k (protocol.locks (min column headerColumns) w (numberOf number)) m b
+      ≡ protocol.turn (protocol.locks (min (column + 1) headerColumns) w′ number′) sent k
+  unfolding protocol.speak lockedAs
   locks-on e f h =
       let next : min (column + 1) headerColumns ≡ min column headerColumns + 1 = omega arith in
       rw (e, ← f, next, lt-ltb (min column headerColumns) lockLast (omega arith))
 
   pub locks-end : {x : ℕ} → w′ ≡ push w m → record { number = number′; sent = sent } ≡ lockedAs column number b
       → lockLast ≤ column → x ≡ nextColumn column
-      → line.speak k (line.locks (min column headerColumns) w (numberOf number)) m b
-      ≡ line.turn (line.head (min x (headerColumns + 1)) w′ number′) sent k
-  unfolding line.speak lockedAs
+      → protocol.speak k (protocol.locks (min column headerColumns) w (numberOf number)) m b
+      ≡ protocol.turn (protocol.head (min x (headerColumns + 1)) w′ number′) sent k
+  unfolding protocol.speak lockedAs
   locks-end {x} e f h g =
       let next : min x (headerColumns + 1) ≡ min column headerColumns + 1 = omega arith in
       rw (e, ← f, next, le-ltb (min column headerColumns) lockLast (omega arith))
@@ -80,17 +80,17 @@ module _ (k : Memory) (column w number : ℕ) (m b : Bool) {w′ : ℕ} {number�
 -- The rest of the header: a column, and the last one, which calls the slave or leaves it deaf.
 module _ (k : Memory) (column w number : ℕ) (m b : Bool) {w′ : ℕ} where
   pub head-on : w′ ≡ push w m → column < headerColumns
-      → line.speak k (line.head (min column (headerColumns + 1)) w (numberOf number)) m b
-      ≡ line.turn (line.head (min (column + 1) (headerColumns + 1)) w′ (numberOf number)) b k
-  unfolding line.speak
+      → protocol.speak k (protocol.head (min column (headerColumns + 1)) w (numberOf number)) m b
+      ≡ protocol.turn (protocol.head (min (column + 1) (headerColumns + 1)) w′ (numberOf number)) b k
+  unfolding protocol.speak
   head-on e h =
       let next : min (column + 1) (headerColumns + 1) ≡ min column (headerColumns + 1) + 1 = omega arith in
       rw (e, next, lt-ltb (min column (headerColumns + 1)) headerColumns (omega arith))
 
   pub head-called : {r : Bool} → w′ ≡ push w m → headerColumns ≤ column → CalledAs w′ number r → r ≡ true
-      → line.speak k (line.head (min column (headerColumns + 1)) w (numberOf number)) m b
-      ≡ line.turn (line.askR (w′ / 2 ^ checkWidth % registerCount % registerCount)) b k
-  unfolding line.speak CalledAs
+      → protocol.speak k (protocol.head (min column (headerColumns + 1)) w (numberOf number)) m b
+      ≡ protocol.turn (protocol.askR (w′ / 2 ^ checkWidth % registerCount % registerCount)) b k
+  unfolding protocol.speak CalledAs
   head-called e h g t =
       rw (
         le-ltb (min column (headerColumns + 1)) headerColumns (omega arith),
@@ -101,27 +101,27 @@ module _ (k : Memory) (column w number : ℕ) (m b : Bool) {w′ : ℕ} where
       )
 
   pub head-deaf : {r : Bool} → w′ ≡ push w m → headerColumns ≤ column → CalledAs w′ number r → r ≡ false
-      → line.speak k (line.head (min column (headerColumns + 1)) w (numberOf number)) m b ≡ line.turn line.deaf b k
-  unfolding line.speak CalledAs
+      → protocol.speak k (protocol.head (min column (headerColumns + 1)) w (numberOf number)) m b ≡ protocol.turn protocol.deaf b k
+  unfolding protocol.speak CalledAs
   head-deaf e h g t = rw (le-ltb (min column (headerColumns + 1)) headerColumns (omega arith), ← e, g, t)
 
 -- A header's word: its check is wrong; it is a command; it is an access, and calls the slave of its ID alone.
 module _ (w number : ℕ) {f : Bool} where
   pub called-wrong : f ≡ fits headerBits w → f ≡ false → CalledAs w number false
-  unfolding CalledAs line.called header
+  unfolding CalledAs protocol.called header
   called-wrong e g = rw (← e, g)
 
   pub called-command : f ≡ fits headerBits w → f ≡ true → (w / 2 ^ checkWidth / 2 ^ 10 % 2 ≡ 1 → ⊥) → CalledAs w number false
-  unfolding CalledAs line.called header bit
+  unfolding CalledAs protocol.called header bit
   called-command e g h = rw (← e, g, ne-eqb (w / 2 ^ checkWidth / 2 ^ 10 % 2) 1 h)
 
   pub called-access : f ≡ fits headerBits w → f ≡ true → w / 2 ^ checkWidth / 2 ^ 10 % 2 ≡ 1
       → CalledAs w number (eqb number (w / 2 ^ checkWidth / 2 ^ 7 % 2 ^ 3))
-  unfolding CalledAs line.called header bit
+  unfolding CalledAs protocol.called header bit
   called-access e g h = rw (← e, g, eq-eqb (w / 2 ^ checkWidth / 2 ^ 10 % 2) 1 h) (id-of (ltb number idCount) refl)
     where
       id-of : (b : Bool) → ltb number idCount ≡ b
-          → line.called (access (w / 2 ^ checkWidth / 2 ^ 7 % 2 ^ 3) (w / 2 ^ checkWidth % 2 ^ 7)) (numberOf number)
-          ≡ cond (eqb number (w / 2 ^ checkWidth / 2 ^ 7 % 2 ^ 3)) (line.askR (w / 2 ^ checkWidth % 2 ^ 7)) line.deaf
+          → protocol.called (access (w / 2 ^ checkWidth / 2 ^ 7 % 2 ^ 3) (w / 2 ^ checkWidth % 2 ^ 7)) (numberOf number)
+          ≡ cond (eqb number (w / 2 ^ checkWidth / 2 ^ 7 % 2 ^ 3)) (protocol.askR (w / 2 ^ checkWidth % 2 ^ 7)) protocol.deaf
       id-of true q = rw q
       id-of false q = rw (q, ne-eqb number (w / 2 ^ checkWidth / 2 ^ 7 % 2 ^ 3) (λ e. absurd (omega (arith, ltb-false number idCount q))))

@@ -6,22 +6,22 @@ use mathlib.Core.Option.{Option, none, some}
 use Prim.Native.Nat.{ℕ}
 use denote.Enum.Declared.{tagOf}
 use types.Run.{OneOf, miss}
-use Rattle.line.specs.Rest.{Timed, power, rest, frame, waiting, running, timer, judge}
-use Rattle.line.specs.Memory.{Memory}
-use Rattle.line.specs.Slave as line
-use Rattle.line.specs.Slave.{deaf, locks, head, askR, askW, byteS, sends, takes, askP}
+use Rattle.protocol.specs.Rest.{Timed, power, rest, frame, waiting, running, timer, judge}
+use Rattle.protocol.specs.Memory.{Memory}
+use Rattle.protocol.specs.Slave as protocol
+use Rattle.protocol.specs.Slave.{deaf, locks, head, askR, askW, byteS, sends, takes, askP}
 use Rattle.laws.proofs.Every.{looked-up}
-use Rattle.line.proofs.Dress.{stepTo}
+use Rattle.protocol.proofs.Dress.{stepTo}
 use Rattle.machine.specs.Zeros.{timed}
 use Rattle.slave.specs.Code.{stateBy, unsaid, heardBy, waitedBy, saysNothing}
-use Rattle.slave.specs.declared.Kind.{Kind}
-use Rattle.slave.specs.declared.Kind.the-variants.{Power, Rest, Deaf, Locks, Head, AskR, AskW, ByteS, Sends, Takes, AskP}
+use Rattle.slave.specs.declared.Phase.{Phase}
+use Rattle.slave.specs.declared.Phase.the-variants.{Power, Rest, Deaf, Locks, Head, AskR, AskW, ByteS, Sends, Takes, AskP}
 use Rattle.slave.specs.declared.Body.{Body}
-use Rattle.slave.proofs.Kind.{the-type}
+use Rattle.slave.proofs.Phase.{the-type}
 
 -- The states in which it has nothing to say: power-on, rest, deaf.
-pub passes-on : (k : Memory) (s : Timed line.Phase) (m b : Bool) → saysNothing s ≡ true → line.step (line.slave k s) m b ≡ stepTo k (heardBy s m) b
-unfolding line.step line.speak judge heardBy
+pub passes-on : (k : Memory) (s : Timed protocol.Phase) (m b : Bool) → saysNothing s ≡ true → protocol.step (protocol.slave k s) m b ≡ stepTo k (heardBy s m) b
+unfolding protocol.step protocol.speak judge heardBy
 passes-on k (power z) m b e = looked-up (timer z m) (λ q. rw q) (λ z′ q. rw q)
 passes-on k rest true b e = refl
 passes-on k rest false b e = refl
@@ -35,11 +35,11 @@ passes-on k (frame z (sends address nth left w)) m b e = absurd (false≢true e)
 passes-on k (frame z (takes address nth left so-far)) m b e = absurd (false≢true e)
 passes-on k (frame z (askP write good address nth)) m b e = absurd (false≢true e)
 
--- The other kinds, by their places: each may speak.
+-- The other phases, by their places: each may speak.
 abbrev speakers : List ℕ
 speakers = 3 ∷ 4 ∷ 5 ∷ 6 ∷ 7 ∷ 8 ∷ 9 ∷ 10 ∷ []
 
-pub may-speak : (kind : Kind) (z : ℕ) (b : Body) → OneOf speakers (tagOf the-type kind) → false ≡ saysNothing (stateBy kind z b)
+pub may-speak : (phase : Phase) (z : ℕ) (b : Body) → OneOf speakers (tagOf the-type phase) → false ≡ saysNothing (stateBy phase z b)
 may-speak Power z b h = absurd (miss speakers 0 tt h)
 may-speak Rest z b h = absurd (miss speakers 1 tt h)
 may-speak Deaf z b h = absurd (miss speakers 2 tt h)
@@ -53,7 +53,7 @@ may-speak Takes z b h = refl
 may-speak AskP z b h = refl
 
 -- What it hears at rest ..
-pub rest-hears : (m : Bool) → cond m (frame 0 line.begun) rest ≡ heardBy rest m
+pub rest-hears : (m : Bool) → cond m (frame 0 protocol.begun) rest ≡ heardBy rest m
 unfolding heardBy judge
 rest-hears true = refl
 rest-hears false = refl
@@ -63,16 +63,16 @@ power-waits : (z : ℕ) (z′ : Option ℕ) → waitedBy z′ (power z) ≡ unsa
 power-waits z none = refl
 power-waits z (some z′) = refl
 
-frame-waits : (z : ℕ) (p : line.Phase) (z′ : Option ℕ) → waitedBy z′ (frame z p) ≡ unsaid (running z′ p)
+frame-waits : (z : ℕ) (p : protocol.Phase) (z′ : Option ℕ) → waitedBy z′ (frame z p) ≡ unsaid (running z′ p)
 frame-waits z p none = refl
 frame-waits z p (some z′) = refl
 
--- The kinds but Rest, by their places.
+-- The phases but Rest, by their places.
 abbrev others : List ℕ
 others = 0 ∷ 2 ∷ 3 ∷ 4 ∷ 5 ∷ 6 ∷ 7 ∷ 8 ∷ 9 ∷ 10 ∷ []
 
-pub other-hears : (kind : Kind) (z : ℕ) (b : Body) (m : Bool) → OneOf others (tagOf the-type kind)
-    → waitedBy (timer z m) (stateBy kind z b) ≡ heardBy (stateBy kind z b) m
+pub other-hears : (phase : Phase) (z : ℕ) (b : Body) (m : Bool) → OneOf others (tagOf the-type phase)
+    → waitedBy (timer z m) (stateBy phase z b) ≡ heardBy (stateBy phase z b) m
 unfolding heardBy judge
 other-hears Power z b m h = power-waits z (timer z m)
 other-hears Rest z b m h = absurd (miss others 1 tt h)
@@ -87,7 +87,7 @@ other-hears Takes z b m h = frame-waits z _ (timer z m)
 other-hears AskP z b m h = frame-waits z _ (timer z m)
 
 -- Zeros counted anew stand in the place of those before.
-pub timed-anew : (z z′ : ℕ) (s : Timed line.Phase) → timed z (timed z′ s) ≡ timed z s
+pub timed-anew : (z z′ : ℕ) (s : Timed protocol.Phase) → timed z (timed z′ s) ≡ timed z s
 timed-anew z z′ (power _) = refl
 timed-anew z z′ rest = refl
 timed-anew z z′ (frame _ p) = refl

@@ -1,4 +1,4 @@
--- What the code's slave stands for in line's definitions, for the contracts: nothing here is needed to read what run promises.
+-- What the code's slave stands for in protocol's definitions, for the contracts: nothing here is needed to read what run promises.
 -- Every value of the types stands for something, so that no contract asks for a good state.
 use mathlib.Core.Path.{_≡_}
 use mathlib.Core.Bool.{Bool, true, false, cond, _&&_}
@@ -6,17 +6,17 @@ use mathlib.Core.Option.{Option, none, some}
 use Prim.Native.Nat.{ℕ, _+_, _-_, _/_, _%_, _^_, min}
 use lib.Dec.{ltb}
 use lib.ListN.{getD}
-use Rattle.line.specs.Limits.{headerColumns, idCount, registerCount, byteLimit}
-use Rattle.line.specs.Bits.{num, bit}
-use Rattle.line.specs.Rest.{Timed, power, rest, frame, Judged, still, ends, meant, judge}
-use Rattle.line.specs.Division.{checkWidth}
-use Rattle.line.specs.Header.{header}
-use Rattle.line.specs.Memory.{Memory, stored}
-use Rattle.line.specs.Slave as line
-use Rattle.line.specs.Slave.{deaf, locks, head, askR, askW, byteS, sends, takes, askP}
+use Rattle.protocol.specs.Limits.{headerColumns, idCount, registerCount, byteLimit}
+use Rattle.protocol.specs.Bits.{num, bit}
+use Rattle.protocol.specs.Rest.{Timed, power, rest, frame, Judged, still, ends, meant, judge}
+use Rattle.protocol.specs.Division.{checkWidth}
+use Rattle.protocol.specs.Header.{header}
+use Rattle.protocol.specs.Memory.{Memory, stored}
+use Rattle.protocol.specs.Slave as protocol
+use Rattle.protocol.specs.Slave.{deaf, locks, head, askR, askW, byteS, sends, takes, askP}
 use Rattle.machine.specs.Zeros.{timed, judgedAt}
-use Rattle.slave.specs.declared.Kind.{Kind}
-use Rattle.slave.specs.declared.Kind.the-variants.{Power, Rest, Deaf, Locks, Head, AskR, AskW, ByteS, Sends, Takes, AskP}
+use Rattle.slave.specs.declared.Phase.{Phase}
+use Rattle.slave.specs.declared.Phase.the-variants.{Power, Rest, Deaf, Locks, Head, AskR, AskW, ByteS, Sends, Takes, AskP}
 use Rattle.slave.specs.declared.Body.{Body}
 use Rattle.slave.specs.declared.Slave.{Slave}
 use Rattle.slave.specs.declared.Seen.{Seen}
@@ -28,12 +28,12 @@ abbrev pub numberOf : ℕ → Option ℕ
 numberOf n = cond (ltb n idCount) (some n) none
 
 -- The address that a body is at.
-abbrev pub placeBy : Body → ℕ
-placeBy b = b .address % registerCount
+abbrev pub addressBy : Body → ℕ
+addressBy b = b .address % registerCount
 
--- The address before a place, round the end: in AskP the place is the next address.
+-- The address before an address, round the end: in AskP the body's is the next one.
 abbrev pub before : ℕ → ℕ
-before place = (place + (registerCount - 1)) % registerCount
+before address = (address + (registerCount - 1)) % registerCount
 
 -- The address behind an address, round the end.
 abbrev pub nextAddress : ℕ → ℕ
@@ -51,49 +51,49 @@ counts = 16
 abbrev pub leftOf : Body → ℕ
 leftOf b = b .left % counts
 
--- What a kind is with its numbers, no zeros counted ..
-abbrev pub formBy : Kind → Body → Timed line.Phase
+-- What a phase is with its numbers, no zeros counted ..
+abbrev pub formBy : Phase → Body → Timed protocol.Phase
 formBy Power b = power 0
 formBy Rest b = rest
-formBy Deaf b = frame 0 line.deaf
-formBy Locks b = frame 0 (line.locks (min (b .column) headerColumns) (b .word) (numberOf (b .number)))
-formBy Head b = frame 0 (line.head (min (b .column) (headerColumns + 1)) (b .word) (numberOf (b .number)))
-formBy AskR b = frame 0 (line.askR (placeBy b))
-formBy AskW b = frame 0 (line.askW (placeBy b) (b .write))
-formBy ByteS b = frame 0 (line.byteS (b .write) (placeBy b) (b .nth))
-formBy Sends b = frame 0 (line.sends (placeBy b) (b .nth) (leftOf b) (b .word))
-formBy Takes b = frame 0 (line.takes (placeBy b) (b .nth) (leftOf b) (b .word))
-formBy AskP b = frame 0 (line.askP (b .write) (b .good) (before (placeBy b)) (b .nth))
+formBy Deaf b = frame 0 protocol.deaf
+formBy Locks b = frame 0 (protocol.locks (min (b .column) headerColumns) (b .word) (numberOf (b .number)))
+formBy Head b = frame 0 (protocol.head (min (b .column) (headerColumns + 1)) (b .word) (numberOf (b .number)))
+formBy AskR b = frame 0 (protocol.askR (addressBy b))
+formBy AskW b = frame 0 (protocol.askW (addressBy b) (b .write))
+formBy ByteS b = frame 0 (protocol.byteS (b .write) (addressBy b) (b .nth))
+formBy Sends b = frame 0 (protocol.sends (addressBy b) (b .nth) (leftOf b) (b .word))
+formBy Takes b = frame 0 (protocol.takes (addressBy b) (b .nth) (leftOf b) (b .word))
+formBy AskP b = frame 0 (protocol.askP (b .write) (b .good) (before (addressBy b)) (b .nth))
 
 -- .. and with as many zeros in a row as it saw just now.
-abbrev pub stateBy : Kind → (zeros : ℕ) → Body → Timed line.Phase
-stateBy kind zeros b = timed zeros (formBy kind b)
+abbrev pub stateBy : Phase → (zeros : ℕ) → Body → Timed protocol.Phase
+stateBy phase zeros b = timed zeros (formBy phase b)
 
 -- What a slave of the code stands for ..
-abbrev pub stateOf : Slave → Timed line.Phase
-stateOf s = stateBy (s .kind) (s .zeros) (s .body)
+abbrev pub stateOf : Slave → Timed protocol.Phase
+stateOf s = stateBy (s .phase) (s .zeros) (s .body)
 
 -- .. and the address that it is at.
-abbrev pub placeOf : Slave → ℕ
-placeOf s = placeBy (s .body)
+abbrev pub addressOf : Slave → ℕ
+addressOf s = addressBy (s .body)
 
 -- What a column makes of a slave with nothing to say, once it is judged ..
-abbrev pub unsaid : Judged line.Phase → Timed line.Phase
+abbrev pub unsaid : Judged protocol.Phase → Timed protocol.Phase
 unsaid (still s) = s
 unsaid ends = rest
 unsaid (meant z p) = frame z p
 
 -- .. from the column ..
-unfoldable pub heardBy : Timed line.Phase → (m : Bool) → Timed line.Phase
-heardBy s m = unsaid (judge line.begun s m)
+unfoldable pub heardBy : Timed protocol.Phase → (m : Bool) → Timed protocol.Phase
+heardBy s m = unsaid (judge protocol.begun s m)
 
 -- .. and, of all but rest, from the zeros counted: none is the fourteenth.
-abbrev pub waitedBy : Option ℕ → Timed line.Phase → Timed line.Phase
+abbrev pub waitedBy : Option ℕ → Timed protocol.Phase → Timed protocol.Phase
 waitedBy none s = rest
 waitedBy (some z) s = timed z s
 
 -- A phase in which a slave does not speak.
-abbrev pub isDeaf : line.Phase → Bool
+abbrev pub isDeaf : protocol.Phase → Bool
 isDeaf deaf = true
 isDeaf (locks column so-far number) = false
 isDeaf (head column so-far number) = false
@@ -105,48 +105,48 @@ isDeaf (takes address nth left so-far) = false
 isDeaf (askP write good address nth) = false
 
 -- Chain: "A slave with nothing to say passes on the bit it sees": at power-on, at rest and deaf it has nothing to say.
-abbrev pub saysNothing : Timed line.Phase → Bool
+abbrev pub saysNothing : Timed protocol.Phase → Bool
 saysNothing (power z) = true
 saysNothing rest = true
 saysNothing (frame z p) = isDeaf p
 
 -- A turn of its parts.
-abbrev pub turned : Kind → (zeros : ℕ) → Body → (sent : Bool) → (byte : ℕ) → Turn
-turned kind zeros b sent byte = record { next = record { kind = kind; zeros = zeros; body = b }; sent = sent; byte = byte }
+abbrev pub turned : Phase → (zeros : ℕ) → Body → (sent : Bool) → (byte : ℕ) → Turn
+turned phase zeros b sent byte = record { next = record { phase = phase; zeros = zeros; body = b }; sent = sent; byte = byte }
 
--- A slave's memory shows what was seen at a place.
-pub record Shows (k : Memory) (place : ℕ) (seen : Seen) : Type 0 where
-  pub right-there : getD (k .rights) place 0 ≡ seen .right
-  pub byte-there : getD (k .registers) place 0 ≡ seen .byte
+-- What was seen at an address is in a slave's memory.
+pub record SeenIn (k : Memory) (address : ℕ) (seen : Seen) : Type 0 where
+  pub right-there : getD (k .rights) address 0 ≡ seen .right
+  pub byte-there : getD (k .registers) address 0 ≡ seen .byte
 
--- The step of line's slave that a turn stands for: the byte stands at the place, and no other changes.
-abbrev pub stepOf : Memory → (place : ℕ) → Turn → line.Step
-stepOf k place r = record { state = stateOf (r .next); says = line.reply (r .sent) (stored k place (r .byte)) }
+-- The step of protocol's slave that a turn stands for: the byte stands at the address, and no other changes.
+abbrev pub stepOf : Memory → (address : ℕ) → Turn → protocol.Step
+stepOf k address r = record { state = stateOf (r .next); says = protocol.reply (r .sent) (stored k address (r .byte)) }
 
--- What a kind's function promises, of a column that is not the fourteenth zero.
-pub record Meets (kind : Kind) (zeros : ℕ) (b : Body) (seen : Seen) (r : Turn) : Type 0 where
-  pub over : (k : Memory) → Shows k (placeBy b) seen
-      → line.stepped k (judgedAt line.begun (stateBy kind zeros b) (seen .master)) (seen .master) (seen .far) ≡ stepOf k (placeBy b) r
+-- What a phase's function promises, of a column that is not the fourteenth zero.
+pub record Meets (phase : Phase) (zeros : ℕ) (b : Body) (seen : Seen) (r : Turn) : Type 0 where
+  pub over : (k : Memory) → SeenIn k (addressBy b) seen
+      → protocol.stepped k (judgedAt protocol.begun (stateBy phase zeros b) (seen .master)) (seen .master) (seen .far) ≡ stepOf k (addressBy b) r
 
--- What step promises: the step of line's slave, over any memory that shows what was seen at its place.
+-- What step promises: the step of protocol's slave, over any memory that has what was seen at its address.
 pub record Steps (s : Slave) (seen : Seen) (r : Turn) : Type 0 where
-  pub over : (k : Memory) → Shows k (placeOf s) seen
-      → line.step (line.slave k (stateOf s)) (seen .master) (seen .far) ≡ stepOf k (placeOf s) r
+  pub over : (k : Memory) → SeenIn k (addressOf s) seen
+      → protocol.step (protocol.slave k (stateOf s)) (seen .master) (seen .far) ≡ stepOf k (addressOf s) r
 
 -- What the code's lock stands for ..
-abbrev pub lockOf : Lock → line.Lock
+abbrev pub lockOf : Lock → protocol.Lock
 lockOf l = record { number = numberOf (l .number); sent = l .sent }
 
 -- .. and the lock that a column makes.
-unfoldable pub lockedAs : (column number : ℕ) → Bool → line.Lock
-lockedAs column number far = line.lock (min column headerColumns) (numberOf number) far
+unfoldable pub lockedAs : (column number : ℕ) → Bool → protocol.Lock
+lockedAs column number far = protocol.lock (min column headerColumns) (numberOf number) far
 
 -- Whether a header's word calls the slave of a number: then to its address, else it is deaf.
 unfoldable pub CalledAs : (word number : ℕ) → Bool → Type 0
 CalledAs word number r =
-    line.called (header word) (numberOf number) ≡ cond r (line.askR (word / 2 ^ checkWidth % registerCount)) line.deaf
+    protocol.called (header word) (numberOf number) ≡ cond r (protocol.askR (word / 2 ^ checkWidth % registerCount)) protocol.deaf
 
 -- A P is followed by a further byte: the last was good, the address is not the last, the right allows it, and bytes are left.
 unfoldable pub goesOn : Body → (right : ℕ) → Bool
 goesOn b right =
-    b .good && (ltb (before (placeBy b) + 1) registerCount && bit (num (b .write)) right && ltb (b .nth) byteLimit)
+    b .good && (ltb (before (addressBy b) + 1) registerCount && bit (num (b .write)) right && ltb (b .nth) byteLimit)

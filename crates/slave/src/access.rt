@@ -1,35 +1,35 @@
 // R and W: whether the addressed slave accepts.
 ghost use mathlib.Core.Path.{_≡_};
-ghost use Rattle.line.specs.Bits.{num, bit};
+ghost use Rattle.protocol.specs.Bits.{num, bit};
 ghost use Rattle.slave.specs.Code.{Meets};
 use crate::Body;
-use crate::Kind;
+use crate::Phase;
 use crate::Seen;
 use crate::Turn;
 use crate::made::said;
 
 // R and W: "The addressed slave repeats R."
 pub fn ask_r(zeros: u64, body: Body, seen: Seen) -> Turn
-    ensures { λ r. ⌜ Meets Kind.AskR zeros body seen r ⌝ }
+    ensures { λ r. ⌜ Meets Phase.AskR zeros body seen r ⌝ }
 {
     let mut n = body;
     n.write = seen.master;
-    said(Kind::AskW, zeros, n, seen.master, seen.byte)
+    said(Phase::AskW, zeros, n, seen.master, seen.byte)
 }
 
 // R and W: "It repeats W if R and W differ and its right allows the access at that address; otherwise it inverts W and goes deaf."
 pub fn ask_w(zeros: u64, body: Body, seen: Seen) -> Turn
-    ensures { λ r. ⌜ Meets Kind.AskW zeros body seen r ⌝ }
+    ensures { λ r. ⌜ Meets Phase.AskW zeros body seen r ⌝ }
 {
     let mut n = body;
     n.write = seen.master;
     n.nth = 1;
     if body.write == seen.master {
-        said(Kind::Deaf, zeros, n, !seen.master, seen.byte)
+        said(Phase::Deaf, zeros, n, !seen.master, seen.byte)
     } else if allowed(seen.right, seen.master) {
-        said(Kind::ByteS, zeros, n, seen.master, seen.byte)
+        said(Phase::ByteS, zeros, n, seen.master, seen.byte)
     } else {
-        said(Kind::Deaf, zeros, n, !seen.master, seen.byte)
+        said(Phase::Deaf, zeros, n, !seen.master, seen.byte)
     }
 }
 

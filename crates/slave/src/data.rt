@@ -1,9 +1,9 @@
 // A byte of a register access: its S, its twelve bits, its P.
 ghost use mathlib.Core.Path.{_≡_};
-ghost use Rattle.line.specs.Division.{dataBits, word};
+ghost use Rattle.protocol.specs.Division.{dataBits, word};
 ghost use Rattle.slave.specs.Code.{nextAddress, Meets, goesOn};
 use crate::Body;
-use crate::Kind;
+use crate::Phase;
 use crate::Seen;
 use crate::Turn;
 use crate::access::allowed;
@@ -18,26 +18,26 @@ const COUNTS: u64 = 16;
 
 // Byte: "A 0 at S is answered 0 and ends the access; the slave goes deaf. The addressed slave confirms S = 1 at once with 1."
 pub fn byte_s(zeros: u64, body: Body, seen: Seen) -> Turn
-    ensures { λ r. ⌜ Meets Kind.ByteS zeros body seen r ⌝ }
+    ensures { λ r. ⌜ Meets Phase.ByteS zeros body seen r ⌝ }
 {
     let mut n = body;
     n.left = TOP_BIT;
     if seen.master {
         if body.write {
             n.word = 0;
-            said(Kind::Takes, zeros, n, true, seen.byte)
+            said(Phase::Takes, zeros, n, true, seen.byte)
         } else {
             n.word = checked(seen.byte);
-            said(Kind::Sends, zeros, n, true, seen.byte)
+            said(Phase::Sends, zeros, n, true, seen.byte)
         }
     } else {
-        said(Kind::Deaf, zeros, n, false, seen.byte)
+        said(Phase::Deaf, zeros, n, false, seen.byte)
     }
 }
 
 // Byte: "Reading: the slave sends data and check; the master's twelve bits are not judged".
 pub fn sends(zeros: u64, body: Body, seen: Seen) -> Turn
-    ensures { λ r. ⌜ Meets Kind.Sends zeros body seen r ⌝ }
+    ensures { λ r. ⌜ Meets Phase.Sends zeros body seen r ⌝ }
 {
     let left = body.left % COUNTS;
     let sent = (body.word >> left) % 2 == 1;
@@ -46,16 +46,16 @@ pub fn sends(zeros: u64, body: Body, seen: Seen) -> Turn
         n.write = false;
         n.good = true;
         n.address = next_address(body.address);
-        said(Kind::AskP, zeros, n, sent, seen.byte)
+        said(Phase::AskP, zeros, n, sent, seen.byte)
     } else {
         n.left = left - 1;
-        said(Kind::Sends, zeros, n, sent, seen.byte)
+        said(Phase::Sends, zeros, n, sent, seen.byte)
     }
 }
 
 // Byte: "Writing: the slave echoes all twelve bits, and at the last check bit stores the byte if the check is right."
 pub fn takes(zeros: u64, body: Body, seen: Seen) -> Turn
-    ensures { λ r. ⌜ Meets Kind.Takes zeros body seen r ⌝ }
+    ensures { λ r. ⌜ Meets Phase.Takes zeros body seen r ⌝ }
 {
     let left = body.left % COUNTS;
     let word = checkbits::pushed(body.word, seen.master);
@@ -63,14 +63,14 @@ pub fn takes(zeros: u64, body: Body, seen: Seen) -> Turn
     if 0 < left {
         n.left = left - 1;
         n.word = word;
-        said(Kind::Takes, zeros, n, seen.master, seen.byte)
+        said(Phase::Takes, zeros, n, seen.master, seen.byte)
     } else {
         n.write = true;
         n.address = next_address(body.address);
         if checkbits::byte_fits(word) {
             n.good = true;
             said(
-                Kind::AskP,
+                Phase::AskP,
                 zeros,
                 n,
                 seen.master,
@@ -78,21 +78,21 @@ pub fn takes(zeros: u64, body: Body, seen: Seen) -> Turn
             )
         } else {
             n.good = false;
-            said(Kind::AskP, zeros, n, seen.master, seen.byte)
+            said(Phase::AskP, zeros, n, seen.master, seen.byte)
         }
     }
 }
 
 // P: "The slave answers 0 if the next address exists, allows the access, and fewer than 64 bytes have passed; otherwise 1".
 pub fn ask_p(zeros: u64, body: Body, seen: Seen) -> Turn
-    ensures { λ r. ⌜ Meets Kind.AskP zeros body seen r ⌝ }
+    ensures { λ r. ⌜ Meets Phase.AskP zeros body seen r ⌝ }
 {
     let mut n = body;
     if goes_on(body, seen.right) {
         n.nth = body.nth + 1;
-        said(Kind::ByteS, zeros, n, false, seen.byte)
+        said(Phase::ByteS, zeros, n, false, seen.byte)
     } else {
-        said(Kind::Deaf, zeros, n, true, seen.byte)
+        said(Phase::Deaf, zeros, n, true, seen.byte)
     }
 }
 

@@ -2,7 +2,7 @@
 ghost use mathlib.Core.Path.{_≡_};
 ghost use Rattle.slave.specs.Code.{nextColumn, lockOf, Meets, lockedAs, CalledAs};
 use crate::Body;
-use crate::Kind;
+use crate::Phase;
 use crate::Seen;
 use crate::Turn;
 use crate::made::NONE;
@@ -23,7 +23,7 @@ struct Lock {
 
 // Locks: the header's bits up to IDL8's column.
 pub fn locks(zeros: u64, body: Body, seen: Seen) -> Turn
-    ensures { λ r. ⌜ Meets Kind.Locks zeros body seen r ⌝ }
+    ensures { λ r. ⌜ Meets Phase.Locks zeros body seen r ⌝ }
 {
     let lock = locked(body.column, body.number, seen.far);
     let mut n = body;
@@ -31,10 +31,10 @@ pub fn locks(zeros: u64, body: Body, seen: Seen) -> Turn
     n.number = lock.number;
     if body.column < LOCK_LAST {
         n.column = body.column + 1;
-        said(Kind::Locks, zeros, n, lock.sent, seen.byte)
+        said(Phase::Locks, zeros, n, lock.sent, seen.byte)
     } else {
         n.column = after(body.column);
-        said(Kind::Head, zeros, n, lock.sent, seen.byte)
+        said(Phase::Head, zeros, n, lock.sent, seen.byte)
     }
 }
 
@@ -83,19 +83,19 @@ fn locked(column: u64, number: u64, far: bool) -> Lock
 
 // The header's columns behind the locks. "Wrong header check, or a command: all slaves go deaf until rest."
 pub fn head(zeros: u64, body: Body, seen: Seen) -> Turn
-    ensures { λ r. ⌜ Meets Kind.Head zeros body seen r ⌝ }
+    ensures { λ r. ⌜ Meets Phase.Head zeros body seen r ⌝ }
 {
     let word = checkbits::pushed(body.word, seen.master);
     let mut n = body;
     n.word = word;
     if body.column < HEADER {
         n.column = body.column + 1;
-        said(Kind::Head, zeros, n, seen.far, seen.byte)
+        said(Phase::Head, zeros, n, seen.far, seen.byte)
     } else if called(word, body.number) {
         n.address = word / CHECKS % REGISTERS;
-        said(Kind::AskR, zeros, n, seen.far, seen.byte)
+        said(Phase::AskR, zeros, n, seen.far, seen.byte)
     } else {
-        said(Kind::Deaf, zeros, n, seen.far, seen.byte)
+        said(Phase::Deaf, zeros, n, seen.far, seen.byte)
     }
 }
 

@@ -1,4 +1,4 @@
-// One slave of the chain: a column in, its next state, the bit that it sends and the byte at its place out (01, Columns).
+// One slave of the chain: a column in, its next state, the bit that it sends and the byte at its address out (01, Columns).
 mod access;
 mod data;
 mod header;
@@ -7,10 +7,10 @@ mod made;
 ghost use mathlib.Core.Path.{_≡_};
 ghost use mathlib.Core.Bool.{cond};
 ghost use Prim.Native.Nat.{_<_};
-ghost use Rattle.line.specs.Limits.{registerCount};
-ghost use Rattle.line.specs.Rest.{powerOn, frame, timer};
-ghost use Rattle.line.specs.Slave.{begun};
-ghost use Rattle.slave.specs.Code.{stateOf, stateBy, placeOf, saysNothing, heardBy, waitedBy, Meets, Steps};
+ghost use Rattle.protocol.specs.Limits.{registerCount};
+ghost use Rattle.protocol.specs.Rest.{powerOn, frame, timer};
+ghost use Rattle.protocol.specs.Slave.{begun};
+ghost use Rattle.slave.specs.Code.{stateOf, stateBy, addressOf, saysNothing, heardBy, waitedBy, Meets, Steps};
 use access::ask_r;
 use access::ask_w;
 use data::ask_p;
@@ -25,7 +25,7 @@ use made::NONE;
 use made::said;
 
 // What a slave is about. After S the names are those of the column that it waits for.
-pub enum Kind {
+pub enum Phase {
     Power,
     Rest,
     Deaf,
@@ -39,7 +39,7 @@ pub enum Kind {
     AskP,
 }
 
-// The numbers of all kinds side by side; each kind looks at its own. In AskW `write` holds R, in AskP `address` is the next one.
+// The numbers of all phases side by side; each phase looks at its own. In AskW `write` holds R, in AskP `address` is the next one.
 pub struct Body {
     pub column: u64,
     pub word: u64,
@@ -52,12 +52,12 @@ pub struct Body {
 }
 
 pub struct Slave {
-    pub kind: Kind,
+    pub phase: Phase,
     pub zeros: u64,
     pub body: Body,
 }
 
-// What a slave sees in a column: the master's bit, its far neighbour's bit, and the right and the byte at its place.
+// What a slave sees in a column: the master's bit, its far neighbour's bit, and the right and the byte at its address.
 pub struct Seen {
     pub master: bool,
     pub far: bool,
@@ -65,7 +65,7 @@ pub struct Seen {
     pub byte: u8,
 }
 
-// What a column makes of it; `byte` stands at its place from now on.
+// What a column makes of it; `byte` stands at its address from now on.
 pub struct Turn {
     pub next: Slave,
     pub sent: bool,
@@ -88,15 +88,15 @@ impl Slave {
             good: false,
         };
         Slave {
-            kind: Kind::Power,
+            phase: Phase::Power,
             zeros: 0,
             body: body,
         }
     }
 
-    // The one place of its registers that it looks at in this column.
-    pub fn place(self) -> usize
-        ensures { λ r. ⌜ (r ≡ placeOf self) × (r < registerCount) ⌝ }
+    // The address of the one register that it looks at in this column.
+    pub fn address(self) -> usize
+        ensures { λ r. ⌜ (r ≡ addressOf self) × (r < registerCount) ⌝ }
     {
         (self.body.address % REGISTERS) as usize
     }
@@ -105,11 +105,11 @@ impl Slave {
     pub fn silent(self) -> bool
         ensures { λ r. ⌜ r ≡ saysNothing (stateOf self) ⌝ }
     {
-        let kind = self.kind;
-        match kind {
-            Kind::Power => true,
-            Kind::Rest => true,
-            Kind::Deaf => true,
+        let phase = self.phase;
+        match phase {
+            Phase::Power => true,
+            Phase::Rest => true,
+            Phase::Deaf => true,
             _ => false,
         }
     }
@@ -118,44 +118,44 @@ impl Slave {
     pub fn heard(self, master: bool) -> Slave
         ensures { λ r. ⌜ stateOf r ≡ heardBy (stateOf self) master ⌝ }
     {
-        let kind = self.kind;
-        match kind {
-            Kind::Rest => woken(self, master),
+        let phase = self.phase;
+        match phase {
+            Phase::Rest => woken(self, master),
             _ => waited(self, master),
         }
     }
 
-    // One column, with what stands at its place.
+    // One column, with what stands at its address.
     pub fn step(self, seen: Seen) -> Turn
         ensures { λ r. ⌜ Steps self seen r ⌝ }
     {
-        let kind = self.kind;
+        let phase = self.phase;
         let body = self.body;
         let zeros = machine::counted(self.zeros, seen.master);
         if zeros < REST {
-            meant(kind, zeros, body, seen)
+            meant(phase, zeros, body, seen)
         } else {
-            said(Kind::Rest, 0, body, seen.far, seen.byte)
+            said(Phase::Rest, 0, body, seen.far, seen.byte)
         }
     }
 }
 
 // A column that is not the fourteenth zero.
-fn meant(kind: Kind, zeros: u64, body: Body, seen: Seen) -> Turn
-    ensures { λ r. ⌜ Meets kind zeros body seen r ⌝ }
+fn meant(phase: Phase, zeros: u64, body: Body, seen: Seen) -> Turn
+    ensures { λ r. ⌜ Meets phase zeros body seen r ⌝ }
 {
-    match kind {
-        Kind::Power => said(Kind::Power, zeros, body, seen.far, seen.byte),
-        Kind::Rest => rest(zeros, body, seen),
-        Kind::Deaf => said(Kind::Deaf, zeros, body, seen.far, seen.byte),
-        Kind::Locks => locks(zeros, body, seen),
-        Kind::Head => head(zeros, body, seen),
-        Kind::AskR => ask_r(zeros, body, seen),
-        Kind::AskW => ask_w(zeros, body, seen),
-        Kind::ByteS => byte_s(zeros, body, seen),
-        Kind::Sends => sends(zeros, body, seen),
-        Kind::Takes => takes(zeros, body, seen),
-        Kind::AskP => ask_p(zeros, body, seen),
+    match phase {
+        Phase::Power => said(Phase::Power, zeros, body, seen.far, seen.byte),
+        Phase::Rest => rest(zeros, body, seen),
+        Phase::Deaf => said(Phase::Deaf, zeros, body, seen.far, seen.byte),
+        Phase::Locks => locks(zeros, body, seen),
+        Phase::Head => head(zeros, body, seen),
+        Phase::AskR => ask_r(zeros, body, seen),
+        Phase::AskW => ask_w(zeros, body, seen),
+        Phase::ByteS => byte_s(zeros, body, seen),
+        Phase::Sends => sends(zeros, body, seen),
+        Phase::Takes => takes(zeros, body, seen),
+        Phase::AskP => ask_p(zeros, body, seen),
     }
 }
 
@@ -166,7 +166,7 @@ fn woken(slave: Slave, master: bool) -> Slave
     if master {
         let body = begun(slave.body);
         Slave {
-            kind: Kind::Locks,
+            phase: Phase::Locks,
             zeros: 0,
             body: body,
         }
@@ -179,18 +179,18 @@ fn woken(slave: Slave, master: bool) -> Slave
 fn waited(slave: Slave, master: bool) -> Slave
     ensures { λ r. ⌜ stateOf r ≡ waitedBy (timer (slave .zeros) master) (stateOf slave) ⌝ }
 {
-    let kind = slave.kind;
+    let phase = slave.phase;
     let body = slave.body;
     let zeros = machine::counted(slave.zeros, master);
     if zeros < REST {
         Slave {
-            kind: kind,
+            phase: phase,
             zeros: zeros,
             body: body,
         }
     } else {
         Slave {
-            kind: Kind::Rest,
+            phase: Phase::Rest,
             zeros: 0,
             body: body,
         }
@@ -199,7 +199,7 @@ fn waited(slave: Slave, master: bool) -> Slave
 
 // Start: "The first 1 after rest is the start bit S (answer 0). All numbers are dropped there".
 fn begun(body: Body) -> Body
-    ensures { λ r. ⌜ stateBy Kind.Locks 0 r ≡ frame 0 begun ⌝ }
+    ensures { λ r. ⌜ stateBy Phase.Locks 0 r ≡ frame 0 begun ⌝ }
 {
     let mut n = body;
     n.column = 1;
@@ -210,11 +210,11 @@ fn begun(body: Body) -> Body
 
 // At rest a 1 is S, and a 0 means nothing.
 fn rest(zeros: u64, body: Body, seen: Seen) -> Turn
-    ensures { λ r. ⌜ Meets Kind.Rest zeros body seen r ⌝ }
+    ensures { λ r. ⌜ Meets Phase.Rest zeros body seen r ⌝ }
 {
     if seen.master {
-        said(Kind::Locks, 0, begun(body), seen.far, seen.byte)
+        said(Phase::Locks, 0, begun(body), seen.far, seen.byte)
     } else {
-        said(Kind::Rest, zeros, body, seen.far, seen.byte)
+        said(Phase::Rest, zeros, body, seen.far, seen.byte)
     }
 }

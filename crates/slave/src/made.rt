@@ -1,20 +1,20 @@
-// What every column's function is made of: the next state with the bit that is sent and the byte at the place.
+// What every column's function is made of: the next state with the bit that is sent and the byte at the address.
 ghost use mathlib.Core.Path.{_≡_};
 ghost use Rattle.slave.specs.Code.{turned};
 use crate::Body;
-use crate::Kind;
+use crate::Phase;
 use crate::Slave;
 use crate::Turn;
 
 // The numbers are below IDS, and this stands for none.
 pub const NONE: u64 = machine::IDS;
 
-// A next state, the bit that is sent, and the byte that stands at the place from now on.
-pub fn said(kind: Kind, zeros: u64, body: Body, sent: bool, byte: u8) -> Turn
-    ensures { λ r. ⌜ r ≡ turned kind zeros body sent byte ⌝ }
+// A next state, the bit that is sent, and the byte that stands at the address from now on.
+pub fn said(phase: Phase, zeros: u64, body: Body, sent: bool, byte: u8) -> Turn
+    ensures { λ r. ⌜ r ≡ turned phase zeros body sent byte ⌝ }
 {
     let next = Slave {
-        kind: kind,
+        phase: phase,
         zeros: zeros,
         body: body,
     };

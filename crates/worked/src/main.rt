@@ -30,7 +30,7 @@ fn main() {
     answered(b"echoed\n", &row, 0, 46);
 }
 
-// What build answered to a request.
+// What build returned to a request.
 fn requested(what: &[u8], outcome: Outcome) {
     io::write_all(STDOUT_FILENO, what);
     ended(outcome);

@@ -7,7 +7,7 @@ use model::entry::{COLUMN, ENTRY_BYTES, KIND};
 use model::list::list;
 
 /// What a spoiled list is marked with.
-pub const LIST_FAULTS: [&str; 4] = ["ragged", "kind 0", "kind 17", "kind over 17"];
+pub const LIST_SPOILS: [&str; 4] = ["ragged", "kind 0", "kind 17", "kind over 17"];
 
 /// The bytes of a list: one that was read, or kinds with any fields, at times
 /// many.
@@ -39,10 +39,10 @@ pub fn spoil_list(random: &mut Random, list: &mut Vec<u8>) -> Marks {
     if entries > 0 && !random.one_in(3) {
         let any = random.below(entries);
         let place = random.pick(&[0, entries - 1, any]);
-        let fault = random.between(1, 3);
+        let spoil = random.between(1, 3);
         let over = random.between(18, 255) as u8;
-        list[ENTRY_BYTES * place + KIND] = [0, 17, over][fault - 1];
-        marks.push(LIST_FAULTS[fault]);
+        list[ENTRY_BYTES * place + KIND] = [0, 17, over][spoil - 1];
+        marks.push(LIST_SPOILS[spoil]);
     }
     if marks.is_empty() || random.one_in(4) {
         let length = list.len() + random.between(1, 5);

@@ -1,7 +1,7 @@
 //! Recorded rows, whole and spoiled.
 
 use super::chains::chain_and_row;
-use super::faults::{other_length, spoil_byte, Faults, BAD_ROW_BYTES};
+use super::provoked::{other_length, spoil_byte, Provoked, BAD_ROW_BYTES};
 use super::random::Random;
 use super::rows::long_row;
 use model::entry::{Entry, Kind};
@@ -41,10 +41,10 @@ pub fn recording(random: &mut Random) -> Recording {
 }
 
 /// A master row and a length for its answer row; 5 and 6 as asked for.
-pub fn two_lengths(random: &mut Random, cdm: Vec<u8>, faults: &Faults) -> (Vec<u8>, usize) {
+pub fn two_lengths(random: &mut Random, cdm: Vec<u8>, provoked: &Provoked) -> (Vec<u8>, usize) {
     let mut cdm = cdm;
     let mut cds_length = cdm.len();
-    if faults.has(5) {
+    if provoked.has(5) {
         let long = long_row(random);
         match random.below(3) {
             0 => cds_length = long.len(),
@@ -55,21 +55,21 @@ pub fn two_lengths(random: &mut Random, cdm: Vec<u8>, faults: &Faults) -> (Vec<u
             }
         }
     }
-    if faults.has(6) && cdm.len() == cds_length {
+    if provoked.has(6) && cdm.len() == cds_length {
         cds_length = other_length(random, cds_length);
     }
     (cdm, cds_length)
 }
 
 /// Recorded rows with 5, 6 and 7 as asked for, and where they come from.
-pub fn spoiled_recording(random: &mut Random, faults: &Faults) -> Recording {
+pub fn spoiled_recording(random: &mut Random, provoked: &Provoked) -> Recording {
     let mut rows = recording(random);
-    if faults.has(5) || faults.has(6) {
-        let (cdm, cds_length) = two_lengths(random, rows.cdm, faults);
+    if provoked.has(5) || provoked.has(6) {
+        let (cdm, cds_length) = two_lengths(random, rows.cdm, provoked);
         rows.cdm = cdm;
         rows.cds = random.bits(cds_length, 8);
     }
-    if faults.has(7) {
+    if provoked.has(7) {
         let which = random.below(3);
         if which != 0 {
             spoil_byte(random, &mut rows.cdm, BAD_ROW_BYTES);

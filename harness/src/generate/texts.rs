@@ -1,6 +1,6 @@
 //! Texts of rows, whole and spoiled.
 
-use super::faults::TWO_32;
+use super::provoked::TWO_32;
 use super::random::Random;
 use super::recordings::recording;
 use crate::conditions::bad_line;

@@ -1,6 +1,6 @@
 //! What a built read and a built write are asked for alike.
 
-use crate::generate::faults::{TWO_16, TWO_32};
+use crate::generate::provoked::{TWO_16, TWO_32};
 use crate::generate::Random;
 
 /// id, address and count.

@@ -2,7 +2,7 @@
 
 use super::Calls;
 use crate::bench::Timed;
-use crate::generate::{room, Faults, Marks, Random};
+use crate::generate::{room, Marks, Provoked, Random};
 use crate::job::{fields, Job, Refusals};
 use crate::lent::Lent;
 use model::Outcome;
@@ -16,11 +16,11 @@ impl Job for BuildCommand {
     const REFUSALS: Refusals<BuildCommand> =
         &[(10, |case| case.cmd > 3), (9, |case| case.out.len() < COLUMNS)];
 
-    fn make(random: &mut Random, faults: &Faults, marks: &mut Marks) -> BuildCommand {
+    fn make(random: &mut Random, provoked: &Provoked, marks: &mut Marks) -> BuildCommand {
         let ids = if random.one_in(4) { 0 } else { random.below(256) as u8 };
         let bad = random.pick(&[4, 5, 6, 7, 8, 64, 128, 255]);
-        let cmd = if faults.has(10) { bad } else { random.below(4) as u8 };
-        BuildCommand { ids, cmd, out: room(random, marks, COLUMNS, faults.has(9)) }
+        let cmd = if provoked.has(10) { bad } else { random.below(4) as u8 };
+        BuildCommand { ids, cmd, out: room(random, marks, COLUMNS, provoked.has(9)) }
     }
 
     fn call(&mut self, calls: &impl Calls) -> Outcome {

@@ -2,7 +2,7 @@
 
 use super::{access, Calls};
 use crate::bench::Timed;
-use crate::generate::{room, Faults, Marks, Random};
+use crate::generate::{room, Marks, Provoked, Random};
 use crate::job::{fields, Job, Refusals};
 use crate::lent::Lent;
 use model::Outcome;
@@ -15,9 +15,9 @@ impl Job for BuildRead {
         (9, |case| access::columns(case.count) > case.out.len()),
     ];
 
-    fn make(random: &mut Random, faults: &Faults, marks: &mut Marks) -> BuildRead {
-        let (id, address, count) = access::draw(random, faults.has(10));
-        let out = room(random, marks, access::columns(count.min(100)), faults.has(9));
+    fn make(random: &mut Random, provoked: &Provoked, marks: &mut Marks) -> BuildRead {
+        let (id, address, count) = access::draw(random, provoked.has(10));
+        let out = room(random, marks, access::columns(count.min(100)), provoked.has(9));
         BuildRead { id, address, count, out }
     }
 

@@ -2,7 +2,7 @@
 
 use super::{access, Calls};
 use crate::bench::Timed;
-use crate::generate::{room, Faults, Marks, Random};
+use crate::generate::{room, Marks, Provoked, Random};
 use crate::job::{fields, Job, Refusals};
 use crate::lent::Lent;
 use model::Outcome;
@@ -15,10 +15,10 @@ impl Job for BuildWrite {
         (9, |case| access::columns(case.bytes.len()) > case.out.len()),
     ];
 
-    fn make(random: &mut Random, faults: &Faults, marks: &mut Marks) -> BuildWrite {
-        let (id, address, count) = access::draw(random, faults.has(10));
+    fn make(random: &mut Random, provoked: &Provoked, marks: &mut Marks) -> BuildWrite {
+        let (id, address, count) = access::draw(random, provoked.has(10));
         let bytes = random.bytes(count.min(1000));
-        let out = room(random, marks, access::columns(bytes.len()), faults.has(9));
+        let out = room(random, marks, access::columns(bytes.len()), provoked.has(9));
         BuildWrite { id, address, bytes: Lent::copy(&bytes), out }
     }
 

@@ -3,8 +3,8 @@
 use super::Calls;
 use crate::bench::{rows, Timed};
 use crate::counts::{Count, Counts};
-use crate::generate::lists::{list_bytes, spoil_list, LIST_FAULTS};
-use crate::generate::{room, Faults, Marks, Random};
+use crate::generate::lists::{list_bytes, spoil_list, LIST_SPOILS};
+use crate::generate::{room, Marks, Provoked, Random};
 use crate::job::{fields, Job, Refusals};
 use crate::lent::Lent;
 use model::entry::{ENTRY_BYTES, KIND};
@@ -23,16 +23,16 @@ impl Job for ListToText {
     ];
 
     fn marks() -> Marks {
-        LIST_FAULTS.to_vec()
+        LIST_SPOILS.to_vec()
     }
 
-    fn make(random: &mut Random, faults: &Faults, marks: &mut Marks) -> ListToText {
+    fn make(random: &mut Random, provoked: &Provoked, marks: &mut Marks) -> ListToText {
         let mut list = list_bytes(random);
         let needed = printed_bytes(&list).expect("all kinds are within 1 to 16");
-        if faults.has(12) {
+        if provoked.has(12) {
             marks.extend(spoil_list(random, &mut list));
         }
-        let out = room(random, marks, needed, faults.has(9));
+        let out = room(random, marks, needed, provoked.has(9));
         ListToText { list: Lent::copy(&list), out }
     }
 

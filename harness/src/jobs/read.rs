@@ -5,9 +5,9 @@ use crate::bench::{rows, Timed};
 use crate::checks::late_opening;
 use crate::conditions::{bad_byte, too_long};
 use crate::counts::{Count, Counts};
-use crate::generate::faults::{TWO_16, TWO_32};
+use crate::generate::provoked::{TWO_16, TWO_32};
 use crate::generate::recordings::{spoiled_recording, Answers};
-use crate::generate::{room, Faults, Marks, Random};
+use crate::generate::{room, Marks, Provoked, Random};
 use crate::job::{fields, Job, Refusals};
 use crate::lent::Lent;
 use model::entry::ENTRY_BYTES;
@@ -25,23 +25,23 @@ impl Job for Read {
         (9, |case| case.needed_at_least() > case.out.len()),
     ];
 
-    fn make(random: &mut Random, faults: &Faults, marks: &mut Marks) -> Read {
-        let rows = spoiled_recording(random, faults);
+    fn make(random: &mut Random, provoked: &Provoked, marks: &mut Marks) -> Read {
+        let rows = spoiled_recording(random, provoked);
         let length = rows.cdm.len();
         let within = random.between(0, length);
         let mut opening = random.pick(&[0, 0, 0, 0, 0, 1, within, within, length]).min(length);
-        if faults.has(8) {
+        if provoked.has(8) {
             let most = length.max(rows.cds.len());
             let far = random.pick(&[TWO_16, TWO_32, usize::MAX - length]) + within;
             opening = random.pick(&[length + 1, length + 1, most + 1, far]);
         }
-        let can_be_read = faults.none_before(9);
+        let can_be_read = provoked.none_before(9);
         let entries = if can_be_read { list(&rows.cdm, &rows.cds, opening).len() } else { 10 };
         Read {
             opening,
             cdm: Lent::copy(&rows.cdm),
             cds: Lent::copy(&rows.cds),
-            out: room(random, marks, ENTRY_BYTES * entries, faults.has(9)),
+            out: room(random, marks, ENTRY_BYTES * entries, provoked.has(9)),
             answers: rows.answers,
         }
     }

@@ -5,7 +5,7 @@ use crate::bench::{rows, Timed};
 use crate::checks::must;
 use crate::conditions::{bad_byte, too_long};
 use crate::generate::recordings::spoiled_recording;
-use crate::generate::{room, Faults, Marks, Random};
+use crate::generate::{room, Marks, Provoked, Random};
 use crate::job::{fields, Job, Refusals};
 use crate::lent::Lent;
 use model::Outcome::{self, Made};
@@ -20,10 +20,10 @@ impl Job for RowsToText {
         (9, |case| 8 + 4 * case.cdm.len() > case.out.len()),
     ];
 
-    fn make(random: &mut Random, faults: &Faults, marks: &mut Marks) -> RowsToText {
-        let rows = spoiled_recording(random, faults);
+    fn make(random: &mut Random, provoked: &Provoked, marks: &mut Marks) -> RowsToText {
+        let rows = spoiled_recording(random, provoked);
         RowsToText {
-            out: room(random, marks, 8 + 4 * rows.cdm.len(), faults.has(9)),
+            out: room(random, marks, 8 + 4 * rows.cdm.len(), provoked.has(9)),
             cdm: Lent::copy(&rows.cdm),
             cds: Lent::copy(&rows.cds),
         }

@@ -6,9 +6,9 @@ use crate::checks::{late_opening, must};
 use crate::conditions::{bad_byte, too_long};
 use crate::counts::{Count, Counts};
 use crate::generate::chains::{chain_and_row, chain_of};
-use crate::generate::faults::{spoil_byte, spoil_length, BAD_ROW_BYTES, TWO_16, TWO_32, TWO_57};
+use crate::generate::provoked::{spoil_byte, spoil_length, BAD_ROW_BYTES, TWO_16, TWO_32, TWO_57};
 use crate::generate::recordings::two_lengths;
-use crate::generate::{Faults, Marks, Random};
+use crate::generate::{Marks, Provoked, Random};
 use crate::job::{fields, Job, Refusals};
 use crate::lent::{Lent, Use};
 use model::account::account;
@@ -31,25 +31,25 @@ impl Job for Run {
         (7, |case| bad_byte(&case.cdm)),
     ];
 
-    fn make(random: &mut Random, faults: &Faults, _: &mut Marks) -> Run {
+    fn make(random: &mut Random, provoked: &Provoked, _: &mut Marks) -> Run {
         let (mut chain, cdm) = chain_and_row(random);
-        if faults.has(1) && random.one_in(4) {
+        if provoked.has(1) && random.one_in(4) {
             chain.slaves += random.pick(&[256, TWO_16, TWO_32, TWO_57, usize::MAX - 16]);
-        } else if faults.has(1) {
+        } else if provoked.has(1) {
             let slaves = random.pick(&[17, 17, 17, 18, 32, 200]);
             chain = chain_of(random, slaves);
         }
-        if faults.has(2) {
+        if provoked.has(2) {
             spoil_length(random, &mut chain.registers, 7);
         }
-        if faults.has(3) {
+        if provoked.has(3) {
             spoil_length(random, &mut chain.rights, 3);
         }
-        if faults.has(4) {
+        if provoked.has(4) {
             spoil_byte(random, &mut chain.rights, &[4, 5, 7, 8, 128, 255]);
         }
-        let (mut cdm, cds_length) = two_lengths(random, cdm, faults);
-        if faults.has(7) {
+        let (mut cdm, cds_length) = two_lengths(random, cdm, provoked);
+        if provoked.has(7) {
             spoil_byte(random, &mut cdm, BAD_ROW_BYTES);
         }
         let cds = random.bytes(cds_length);

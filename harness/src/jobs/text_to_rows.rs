@@ -5,7 +5,7 @@ use crate::bench::{rows, Timed};
 use crate::checks::must;
 use crate::conditions::bad_line;
 use crate::generate::texts::{damage, lengthen, text, DAMAGES};
-use crate::generate::{room, Faults, Marks, Random};
+use crate::generate::{room, Marks, Provoked, Random};
 use crate::job::{fields, Job, Refusals};
 use crate::lent::Lent;
 use model::Outcome::{self, BadLine, Made};
@@ -27,9 +27,9 @@ impl Job for TextToRows {
         [&COLUMNS[..], &DAMAGES].concat()
     }
 
-    fn make(random: &mut Random, faults: &Faults, marks: &mut Marks) -> TextToRows {
+    fn make(random: &mut Random, provoked: &Provoked, marks: &mut Marks) -> TextToRows {
         let (mut text, mut columns) = text(random);
-        if faults.has(5) {
+        if provoked.has(5) {
             columns = lengthen(random, &mut text);
         }
         marks.push(match columns {
@@ -39,12 +39,12 @@ impl Job for TextToRows {
             4097 => "4097 columns",
             _ => "more columns",
         });
-        if faults.has(11) {
+        if provoked.has(11) {
             marks.extend(damage(random, &mut text));
         }
         let which = random.below(3);
-        let cdm = room(random, marks, columns, faults.has(9) && which != 0);
-        let cds = room(random, marks, columns, faults.has(9) && which != 1);
+        let cdm = room(random, marks, columns, provoked.has(9) && which != 0);
+        let cds = room(random, marks, columns, provoked.has(9) && which != 1);
         TextToRows { text: Lent::copy(&text), cdm, cds }
     }
 

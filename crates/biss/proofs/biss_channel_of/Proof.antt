@@ -1,4 +1,4 @@
--- `biss::biss_channel_of` meets its contract: what channel_of answers, coded. Assumes nothing.
+-- `biss::biss_channel_of` meets its contract: what channel_of returns, coded. Assumes nothing.
 use borrow.Author.Needs.{needs}
 use Rattle.biss.proofs.biss_channel_of.Statement.{statement}
 use Rattle.biss.proofs.biss_channel_of.Tie as tie

@@ -7,7 +7,7 @@ use borrow.Author.Needs.{needs}
 use lib.Seq.{sets}
 use Rattle.build.proofs.Ends.{built-refused, built-made, command-ten, command-nine, command-none}
 use Rattle.build.proofs.Rows.{lead-bits, made-command, length-command}
-use Rattle.line.specs.Bits.{num, bits}
+use Rattle.protocol.specs.Bits.{num, bits}
 use Rattle.build.proofs.build_command.Statement.{statement}
 use Rattle.build.proofs.build_command.Tie as tie
 
@@ -17,14 +17,14 @@ returns c = built-refused _ _ 10 (command-ten _ _ _ (c .if1 .taken)) (λ e. omeg
 returns-2 : tie.Need-returns-2
 returns-2 c = built-refused _ _ 9 (command-nine _ _ _ (c .before .if1 .left) (c .if2 .taken)) (λ e. omega arith)
 
-mul-opening : tie.Need-mul-opening
-mul-opening c = search needs
+mul-frame-head : tie.Need-mul-frame-head
+mul-frame-head c = search needs
 
-add-opening : tie.Need-add-opening
-add-opening c = search needs
+add-frame-head : tie.Need-add-frame-head
+add-frame-head c = search needs
 
-opening-requires : tie.Need-opening-requires
-opening-requires c κs = search needs
+frame-head-requires : tie.Need-frame-head-requires
+frame-head-requires c κs = search needs
 
 put-bits-requires : tie.Need-put-bits-requires
 put-bits-requires c κs = search needs
@@ -35,7 +35,7 @@ same-length c = search needs
 returns-3 : tie.Need-returns-3
 returns-3 c =
     let put = c .before .before .put-bits in
-    let start = c .before .before .before .before .opening in
+    let start = c .before .before .before .before .frame-head in
     let through = c .before .before .before .before .before in
     let a = through .before .before .before .args in
     built-made
@@ -57,9 +57,9 @@ build-command-spec =
     (tie.spec
     returns
     returns-2
-    mul-opening
-    add-opening
-    opening-requires
+    mul-frame-head
+    add-frame-head
+    frame-head-requires
     put-bits-requires
     same-length
     returns-3)

@@ -1,4 +1,4 @@
--- `build::outside` meets its contract: each answer is the definition at the branch's tests. Assumes nothing.
+-- `build::outside` meets its contract: each result is the definition at the branch's tests. Assumes nothing.
 use borrow.Author.Needs.{needs}
 use Rattle.build.specs.Build.{outsideAccess}
 use Rattle.laws.proofs.Rules.{cases}

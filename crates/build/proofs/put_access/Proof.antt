@@ -6,21 +6,21 @@ use Prim.Native.Nat.{ℕ, _+_, _*_}
 use borrow.Author.Needs.{needs}
 use lib.Seq.{sets}
 use Rattle.build.proofs.Rows.{access-bits}
-use Rattle.line.specs.Bits.{num, bits}
+use Rattle.protocol.specs.Bits.{num, bits}
 use Rattle.build.proofs.put_access.Statement.{statement}
 use Rattle.build.proofs.put_access.Tie as tie
 
-mul-opening : tie.Need-mul-opening
-mul-opening c = search needs
+mul-frame-head : tie.Need-mul-frame-head
+mul-frame-head c = search needs
 
-add-opening : tie.Need-add-opening
-add-opening c = search needs
+add-frame-head : tie.Need-add-frame-head
+add-frame-head c = search needs
 
-add-opening-2 : tie.Need-add-opening-2
-add-opening-2 c = search needs
+add-frame-head-2 : tie.Need-add-frame-head-2
+add-frame-head-2 c = search needs
 
-opening-requires : tie.Need-opening-requires
-opening-requires c κs = search needs
+frame-head-requires : tie.Need-frame-head-requires
+frame-head-requires c κs = search needs
 
 mul-put-bits : tie.Need-mul-put-bits
 mul-put-bits c = search needs
@@ -37,7 +37,7 @@ same-length c = search needs
 returns : tie.Need-returns
 returns c =
     let put = c .before .before .put-bits in
-    let start = c .before .before .before .before .opening in
+    let start = c .before .before .before .before .frame-head in
     let a = c .before .before .before .before .before .before .args in (
       put .ensures .0,
       put .ensures .1
@@ -49,10 +49,10 @@ pub put-access-spec : {M : Type 1} → statement M
 put-access-spec =
     tie.close
     (tie.spec
-    mul-opening
-    add-opening
-    add-opening-2
-    opening-requires
+    mul-frame-head
+    add-frame-head
+    add-frame-head-2
+    frame-head-requires
     mul-put-bits
     add-put-bits
     put-bits-requires

@@ -8,7 +8,7 @@ use borrow.Author.Needs.{needs}
 use lib.ListN.{length, length-set}
 use lib.Seq.{sets, length-sets}
 use Rattle.build.proofs.Columns.{bit-laid, none-laid}
-use Rattle.line.specs.Bits.{num, bits}
+use Rattle.protocol.specs.Bits.{num, bits}
 use Rattle.build.proofs.put_bits.Statement.{statement}
 use Rattle.build.proofs.put_bits.Tie as tie
 

@@ -6,10 +6,10 @@ use Prim.Native.Nat.{_+_, _*_}
 use borrow.Author.Needs.{needs}
 use lib.ListN.{length}
 use lib.Seq.{sets}
-use Rattle.build.proofs.Columns.{run-laid}
+use Rattle.build.proofs.Columns.{part-laid}
 use Rattle.build.proofs.Rows.{no-reads, read-byte}
-use Rattle.line.specs.Bits.{num}
-use Rattle.line.specs.Building.{readBytes}
+use Rattle.protocol.specs.Bits.{num}
+use Rattle.protocol.specs.Building.{readBytes}
 use Rattle.build.proofs.put_reads.Statement.{statement}
 use Rattle.build.proofs.put_reads.Tie as tie
 
@@ -41,7 +41,7 @@ loop-again c =
       search needs,
       put .kept .0 ∙ l .inv .1,
       rw (put .ensures .0, put .ensures .1)
-          (run-laid (l .out) (l .p) 14 8192 _ _ (read-byte (l .left) (turn .loop-test .taken)) ∙ l .inv .2),
+          (part-laid (l .out) (l .p) 14 8192 _ _ (read-byte (l .left) (turn .loop-test .taken)) ∙ l .inv .2),
     )
 
 same-length : tie.Need-same-length Inv-loop μ-loop

@@ -7,10 +7,10 @@ use native.Mathlib.Omega.{arith}
 use borrow.Author.Needs.{needs}
 use lib.ListN.{length, drop}
 use lib.Seq.{sets}
-use Rattle.build.proofs.Columns.{run-laid}
+use Rattle.build.proofs.Columns.{part-laid}
 use Rattle.build.proofs.Rows.{no-writes, write-left}
-use Rattle.line.specs.Bits.{num}
-use Rattle.line.specs.Building.{writeBytes}
+use Rattle.protocol.specs.Bits.{num}
+use Rattle.protocol.specs.Building.{writeBytes}
 use Rattle.build.proofs.put_writes.Statement.{statement}
 use Rattle.build.proofs.put_writes.Tie as tie
 
@@ -51,7 +51,7 @@ loop-again c =
       search needs,
       put .kept .0 ∙ l .inv .2,
       rw (put .ensures .0, put .ensures .1, made .ensures)
-          (run-laid (l .out) (l .p) 14 _ _ _ (write-left _ (l .i) (turn .loop-test .taken) (omega (arith, known (l .i))))
+          (part-laid (l .out) (l .p) 14 _ _ _ (write-left _ (l .i) (turn .loop-test .taken) (omega (arith, known (l .i))))
           ∙ l .inv .3),
     )
 

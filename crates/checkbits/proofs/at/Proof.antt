@@ -2,8 +2,8 @@
 -- Assumes nothing.
 use Prim.Native.Nat.{_^_}
 use borrow.Author.Needs.{needs}
-use Rattle.line.specs.Bits.{bit}
-use Rattle.line.specs.Division.{headerBits, feed, divide, remainder, check}
+use Rattle.protocol.specs.Bits.{bit}
+use Rattle.protocol.specs.Division.{headerBits, divideBit, divide, remainder, check}
 use Rattle.laws.proofs.Table.{tabulated}
 use Rattle.checkbits.proofs.at.Statement.{statement}
 use Rattle.checkbits.proofs.at.Tie as tie
@@ -12,7 +12,7 @@ array-read-result : tie.Need-array-read-result
 array-read-result c = search needs
 
 returns : tie.Need-returns
-unfolding check remainder divide feed bit
+unfolding check remainder divide divideBit bit
 returns c = tabulated (check headerBits) 0 (2 ^ headerBits) (c .args .word) (c .pre)
 
 pub at-spec : {M : Type 1} → statement M

@@ -2,7 +2,7 @@
 use mathlib.Core.Path.{ap}
 use Prim.Native.Nat.{ℕ, _-_}
 use borrow.Author.Needs.{needs}
-use Rattle.line.specs.Division.{check, remainder}
+use Rattle.protocol.specs.Division.{check, remainder}
 use Rattle.checkbits.proofs.Fours.{four-more}
 use Rattle.checkbits.proofs.byte_check.Statement.{statement}
 use Rattle.checkbits.proofs.byte_check.Tie as tie

@@ -1,7 +1,7 @@
 -- `checkbits::byte_fits` meets its contract: the check of eight bits looks at eight bits alone. Assumes nothing.
 use borrow.Author.Needs.{needs}
-use Rattle.line.proofs.Division.{check-low}
-use Rattle.line.specs.Division.{dataBits, fits}
+use Rattle.protocol.proofs.Division.{check-low}
+use Rattle.protocol.specs.Division.{dataBits, fits}
 use Rattle.checkbits.proofs.byte_fits.Statement.{statement}
 use Rattle.checkbits.proofs.byte_fits.Tie as tie
 

@@ -2,8 +2,8 @@
 -- Assumes nothing.
 use mathlib.Core.Path.{_∙_}
 use borrow.Author.Needs.{needs}
-use Rattle.line.specs.Division.{headerBits}
-use Rattle.line.proofs.Division.{check-low}
+use Rattle.protocol.specs.Division.{headerBits}
+use Rattle.protocol.proofs.Division.{check-low}
 use Rattle.checkbits.proofs.header_check.Statement.{statement}
 use Rattle.checkbits.proofs.header_check.Tie as tie
 

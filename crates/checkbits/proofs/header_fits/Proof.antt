@@ -3,7 +3,7 @@ use mathlib.Core.Path.{ap}
 use Prim.Native.Nat.{ℕ, _-_, _/_, _%_}
 use borrow.Author.Needs.{needs}
 use lib.Dec.{eqb}
-use Rattle.line.specs.Division.{check, remainder, fits}
+use Rattle.protocol.specs.Division.{check, remainder, fits}
 use Rattle.checkbits.proofs.Fours.{three-fours}
 use Rattle.checkbits.proofs.header_fits.Statement.{statement}
 use Rattle.checkbits.proofs.header_fits.Tie as tie

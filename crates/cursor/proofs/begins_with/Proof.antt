@@ -6,7 +6,7 @@ use Prim.Native.Nat.{_-_, _≤_}
 use borrow.Author.Needs.{needs}
 use lib.ListN.{length, drop}
 use Rattle.cursor.proofs.Lines.{byte-differs, byte-same, no-byte, too-short}
-use Rattle.line.specs.Text.{exactly, begins}
+use Rattle.protocol.specs.Text.{exactly, begins}
 use Rattle.cursor.proofs.begins_with.Statement.{statement}
 use Rattle.cursor.proofs.begins_with.Tie as tie
 

@@ -2,7 +2,7 @@
 use mathlib.Core.Bool.{and-true}
 use borrow.Author.Needs.{needs}
 use borrow.Author.Tests.{eq-eqb, ne-eqb}
-use Rattle.line.specs.Text.{begins}
+use Rattle.protocol.specs.Text.{begins}
 use Rattle.cursor.proofs.is_column.Statement.{statement}
 use Rattle.cursor.proofs.is_column.Tie as tie
 

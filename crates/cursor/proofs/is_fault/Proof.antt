@@ -1,6 +1,6 @@
 -- `cursor::is_fault` meets its contract: anywhere but at the end, in the header, or inside a column's line. Assumes nothing.
 use mathlib.Core.Path.{sym}
-use Rattle.line.proofs.Fault.{in-header}
+use Rattle.protocol.proofs.Fault.{in-header}
 use Rattle.cursor.proofs.Lines.{not-end, end-fault}
 use Rattle.cursor.proofs.is_fault.Statement.{statement}
 use Rattle.cursor.proofs.is_fault.Tie as tie

@@ -4,7 +4,7 @@ use Prim.Native.Nat.{_+_, _-_, _%_, _≤_}
 use borrow.Author.Needs.{needs}
 use lib.ListN.{length, drop}
 use Rattle.cursor.proofs.Lines.{line-formed}
-use Rattle.line.specs.Fault.{stop}
+use Rattle.protocol.specs.Fault.{stop}
 use Rattle.cursor.proofs.past_lines.Statement.{statement}
 use Rattle.cursor.proofs.past_lines.Tie as tie
 

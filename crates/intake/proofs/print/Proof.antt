@@ -3,13 +3,13 @@ use borrow.Author.Needs.{needs}
 use Rattle.intake.proofs.print.Statement.{statement}
 use Rattle.intake.proofs.print.Tie as tie
 
-enum-known-answered : tie.Need-enum-known-answered
-enum-known-answered c = search needs
+enum-known-outcome : tie.Need-enum-known-outcome
+enum-known-outcome c = search needs
 
 slice-aggregate-write-all : tie.Need-slice-aggregate-write-all
 slice-aggregate-write-all c =
     let told = c .before .before in
-    let made = rw (told .answered .given .1) at (told .before .before .before .pre) in
+    let made = rw (told .outcome .given .1) at (told .before .before .before .pre) in
     made .1
 
 write-all-requires : tie.Need-write-all-requires
@@ -37,7 +37,7 @@ pub print-spec : {M : Type 1} → statement M
 print-spec =
     tie.close
     (tie.spec
-    enum-known-answered
+    enum-known-outcome
     slice-aggregate-write-all
     write-all-requires
     not-written-requires

@@ -1,23 +1,23 @@
--- `intake::print_long` meets its contract: what answer made may be printed. Assumes nothing.
+-- `intake::print_long` meets its contract: what report made may be printed. Assumes nothing.
 use borrow.Author.Needs.{needs}
 use Rattle.intake.proofs.Counted.{printable}
 use Rattle.intake.proofs.print_long.Statement.{statement}
 use Rattle.intake.proofs.print_long.Tie as tie
 
-answer-room-requires : tie.Need-answer-room-requires
-answer-room-requires c κs = search needs
+report-room-requires : tie.Need-report-room-requires
+report-room-requires c κs = search needs
 
-slice-aggregate-long-answer : tie.Need-slice-aggregate-long-answer
-slice-aggregate-long-answer c = search needs
+slice-aggregate-long-report : tie.Need-slice-aggregate-long-report
+slice-aggregate-long-report c = search needs
 
-long-answer-requires : tie.Need-long-answer-requires
-long-answer-requires c κs = search needs
+long-report-requires : tie.Need-long-report-requires
+long-report-requires c κs = search needs
 
 slice-aggregate-print : tie.Need-slice-aggregate-print
 slice-aggregate-print c = search needs
 
 print-requires : tie.Need-print-requires
-print-requires c κs = printable _ (c .before .before .long-answer .ensures)
+print-requires c κs = printable _ (c .before .before .long-report .ensures)
 
 returns : tie.Need-returns
 returns c = search needs
@@ -26,9 +26,9 @@ pub print-long-spec : {M : Type 1} → statement M
 print-long-spec =
     tie.close
     (tie.spec
-    answer-room-requires
-    slice-aggregate-long-answer
-    long-answer-requires
+    report-room-requires
+    slice-aggregate-long-report
+    long-report-requires
     slice-aggregate-print
     print-requires
     returns)

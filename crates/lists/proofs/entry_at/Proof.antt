@@ -4,7 +4,7 @@ use Prim.Native.Nat.{_+_}
 use native.Mathlib.Nat.{add-zero}
 use native.Mathlib.Omega.{arith}
 use borrow.Author.Needs.{needs}
-use Rattle.line.specs.Pieces.{numberAt}
+use Rattle.protocol.specs.Pieces.{numberAt}
 use Rattle.lists.specs.Fields.{fieldsAt}
 use Rattle.lists.proofs.entry_at.Statement.{statement}
 use Rattle.lists.proofs.entry_at.Tie as tie

@@ -3,8 +3,8 @@ use mathlib.Core.Path.{_≡_, sym, _∙_}
 use Prim.Native.Nat.{_-_, _≤_}
 use borrow.Author.Needs.{needs}
 use lib.ListN.{length, drop}
-use Rattle.line.specs.Layout.{current, isList}
-use Rattle.line.proofs.Codec.{list-none}
+use Rattle.protocol.specs.Layout.{current, isList}
+use Rattle.protocol.proofs.Codec.{list-none}
 use Rattle.lists.proofs.Walk.{good-kind, bad-kind}
 use Rattle.lists.proofs.is_list.Statement.{statement}
 use Rattle.lists.proofs.is_list.Tie as tie

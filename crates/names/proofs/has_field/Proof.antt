@@ -1,6 +1,6 @@
 -- `names::has_field` meets its contract: the table is the definition tabulated, which antt computes, entry for entry. Assumes nothing.
 use borrow.Author.Needs.{needs}
-use Rattle.line.specs.Entries.{numbered}
+use Rattle.protocol.specs.Entries.{numbered}
 use Rattle.kinds.proofs.Numbers.{kind-low}
 use Rattle.names.proofs.Numbers.{field-at}
 use Rattle.names.specs.Names.{names}

@@ -1,7 +1,7 @@
 -- `names::name_length` meets its contract: the table is the definition tabulated, which antt computes, entry for entry. Assumes nothing.
 use native.Mathlib.Omega.{arith}
 use borrow.Author.Needs.{needs}
-use Rattle.line.specs.Entries.{numbered}
+use Rattle.protocol.specs.Entries.{numbered}
 use Rattle.kinds.proofs.Numbers.{kind-low}
 use Rattle.names.proofs.Numbers.{name-short, length-at}
 use Rattle.names.specs.Names.{nameOf}

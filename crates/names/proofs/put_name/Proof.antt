@@ -2,12 +2,12 @@
 use mathlib.Core.Path.{ap}
 use Prim.Native.Nat.{ℕ, _+_, _*_}
 use borrow.Author.Needs.{needs}
-use Rattle.line.specs.Entries.{numbered}
-use Rattle.line.specs.Pieces.{joined}
+use Rattle.protocol.specs.Entries.{numbered}
+use Rattle.protocol.specs.Pieces.{joined}
 use Rattle.kinds.proofs.Numbers.{kind-low}
 use Rattle.names.proofs.Numbers.{name-part}
 use Rattle.names.specs.Names.{nameOf}
-use Rattle.print.proofs.Runs.{renamed}
+use Rattle.print.proofs.Laid.{renamed}
 use Rattle.names.proofs.put_name.Statement.{statement}
 use Rattle.names.proofs.put_name.Tie as tie
 

@@ -6,7 +6,7 @@ use mathlib.Core.Path.{ap}
 use borrow.Author.Needs.{needs}
 use lib.ListN.{length}
 use Rattle.print.proofs.Decimal.{decimal-one, decimal-more, decimal-longer}
-use Rattle.print.proofs.Runs.{then, one-byte}
+use Rattle.print.proofs.Laid.{then, one-byte}
 use Rattle.print.proofs.put_decimal.Reads as put-decimal
 use Rattle.print.proofs.put_decimal.Kinds as put-decimal-kinds
 use Rattle.print.proofs.+put_decimal.Lts-put_decimal as put-decimal-lts

@@ -5,7 +5,7 @@ use Prim.Native.Nat.{_+_, _-_, _≤_}
 use borrow.Author.Needs.{needs}
 use lib.ListN.{length, length-set, drop}
 use lib.Seq.{sets}
-use Rattle.print.proofs.Runs.{byte-laid, none-laid}
+use Rattle.print.proofs.Laid.{byte-laid, none-laid}
 use Rattle.print.proofs.put_bytes.Statement.{statement}
 use Rattle.print.proofs.put_bytes.Tie as tie
 

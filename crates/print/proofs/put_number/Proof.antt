@@ -1,7 +1,7 @@
 -- `print::put_number` meets its contract: a TAB, and the digits. Assumes nothing.
 use borrow.Author.Needs.{needs}
 use lib.ListN.{length-set}
-use Rattle.print.proofs.Runs.{then, one-byte, laid-length}
+use Rattle.print.proofs.Laid.{then, one-byte, laid-length}
 use Rattle.print.proofs.put_number.Statement.{statement}
 use Rattle.print.proofs.put_number.Tie as tie
 

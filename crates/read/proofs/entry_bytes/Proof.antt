@@ -1,8 +1,8 @@
 -- `read::entry_bytes` meets its contract: the layout's bytes, written out. Assumes nothing.
 use mathlib.Core.Path.{refl}
 use borrow.Author.Needs.{needs}
-use Rattle.line.specs.Pieces.{inBytes}
-use Rattle.line.specs.Layout.{fieldBytes}
+use Rattle.protocol.specs.Pieces.{inBytes}
+use Rattle.protocol.specs.Layout.{fieldBytes}
 use Rattle.read.specs.Parts.{bytesFor}
 use Rattle.read.proofs.entry_bytes.Statement.{statement}
 use Rattle.read.proofs.entry_bytes.Tie as tie

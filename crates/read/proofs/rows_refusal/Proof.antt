@@ -1,4 +1,4 @@
--- `read::rows_refusal` meets its contract, a law for each answer. Assumes nothing.
+-- `read::rows_refusal` meets its contract, a law for each result. Assumes nothing.
 use borrow.Author.Needs.{needs}
 use Rattle.read.proofs.Ends.{rows-wrong, opened-late, rows-good}
 use Rattle.read.proofs.rows_refusal.Statement.{statement}

@@ -6,9 +6,9 @@ use Prim.Native.Nat.{suc, _+_, _-_, _≤_}
 use native.Mathlib.Omega.{arith}
 use borrow.Author.Needs.{needs}
 use lib.ListN.{length, drop}
-use Rattle.line.specs.Bits.{rowOf}
-use Rattle.line.specs.Entries.{Place}
-use Rattle.line.specs.Reader.{columns}
+use Rattle.protocol.specs.Bits.{rowOf}
+use Rattle.protocol.specs.Entries.{Place}
+use Rattle.protocol.specs.Reader.{columns}
 use Rattle.reader.specs.Code.{stateOf}
 use Rattle.read.specs.Parts.{placeOf, bytesFor, kept, Reached, reached}
 use Rattle.read.proofs.Kept.{length-all}

@@ -26,7 +26,7 @@ returns-2 : tie.Need-returns-2
 returns-2 c = rw (c .before .enum-told2 .given .1) (c .rests2 .ensures)
 
 returns-3 : tie.Need-returns-3
-returns-3 c = let a = c .before .before .args in rw (begun-ends (a .kind) (a .body) (c .before .match .keys3)) (c .rests3 .ensures)
+returns-3 c = let a = c .before .before .args in rw (begun-ends (a .phase) (a .body) (c .before .match .keys3)) (c .rests3 .ensures)
 
 pub fourteenth-spec : {M : Type 1} → statement M
 fourteenth-spec =

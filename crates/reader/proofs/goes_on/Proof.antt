@@ -1,7 +1,7 @@
--- `reader::goes_on` meets its contract: each kind has its function. Assumes nothing.
+-- `reader::goes_on` meets its contract: each phase has its function. Assumes nothing.
 use mathlib.Core.Path.{refl}
 use borrow.Author.Needs.{needs}
-use Rattle.line.specs.Reader.{look}
+use Rattle.protocol.specs.Reader.{look}
 use Rattle.reader.proofs.Turns.{quiet, looked}
 use Rattle.reader.proofs.goes_on.Statement.{statement}
 use Rattle.reader.proofs.goes_on.Tie as tie

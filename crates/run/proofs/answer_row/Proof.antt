@@ -6,9 +6,9 @@ use Prim.Native.Nat.{ℕ, _+_, _-_, _*_, _≤_}
 use native.Mathlib.Omega.{arith}
 use borrow.Author.Needs.{needs}
 use lib.ListN.{length, length-replicate, replicate}
-use Rattle.line.specs.Bits.{num, rowOf}
-use Rattle.line.specs.Chain.{answersFrom, memoriesAfter}
-use Rattle.line.specs.Limits.{registerCount}
+use Rattle.protocol.specs.Bits.{num, rowOf}
+use Rattle.protocol.specs.Chain.{answersFrom, memoriesAfter}
+use Rattle.protocol.specs.Limits.{registerCount}
 use Rattle.run.proofs.Rows.{Gone, stored-long, bits-next, sent-next, gathered-next}
 use Rattle.run.proofs.Rows.{waiting, gathered, sent-first, gathered-first, bits-first, own-long, rowed}
 use Rattle.run.proofs.Turned.{allSent}

@@ -7,22 +7,22 @@ use Prim.Native.Nat.{_+_, _-_, _≤_, _<_}
 use native.Mathlib.Omega.{arith}
 use borrow.Author.Needs.{needs}
 use lib.ListN.{length, length-set, take, drop}
-use Rattle.line.specs.Bits.{num, rowOf}
-use Rattle.line.specs.Slave as line
+use Rattle.protocol.specs.Bits.{num, rowOf}
+use Rattle.protocol.specs.Slave as protocol
 use Rattle.slave.proofs.Silence.{passes-on}
 use Rattle.slave.specs.Code.{stateOf}
-use Rattle.run.specs.Parts.{sentBy, leftBy, memoryBy, newBy}
-use Rattle.run.proofs.Slaves.{own-step, sent-next, left-next, passed}
+use Rattle.run.specs.Parts.{sentBy, afterBy, memoryBy, newBy}
+use Rattle.run.proofs.Slaves.{own-step, sent-next, after-next, passed}
 use Rattle.run.proofs.pass_slave.Statement.{statement}
 use Rattle.run.proofs.pass_slave.Tie as tie
 
 abbrev Inv-loop : tie.InvT-loop
 Inv-loop rights registers₀ cdm cds₀ slave₀ i₀ registers cds slave i =
     (i ≤ length cdm) × (length registers ≡ length registers₀) × (length cds ≡ length cds₀)
-    × (take i cds ++ map num (sentBy (line.slave (memoryBy registers rights) (stateOf slave)) (rowOf (drop i cdm)) (rowOf (drop i cds)))
+    × (take i cds ++ map num (sentBy (protocol.slave (memoryBy registers rights) (stateOf slave)) (rowOf (drop i cdm)) (rowOf (drop i cds)))
     ≡ map num (sentBy (newBy registers₀ rights) (rowOf cdm) (rowOf cds₀)))
-    × (leftBy (line.slave (memoryBy registers rights) (stateOf slave)) (rowOf (drop i cdm)) (rowOf (drop i cds))
-    ≡ leftBy (newBy registers₀ rights) (rowOf cdm) (rowOf cds₀))
+    × (afterBy (protocol.slave (memoryBy registers rights) (stateOf slave)) (rowOf (drop i cdm)) (rowOf (drop i cds))
+    ≡ afterBy (newBy registers₀ rights) (rowOf cdm) (rowOf cds₀))
 
 abbrev μ-loop : tie.MeasureT-loop
 μ-loop rights registers₀ cdm cds₀ slave₀ i₀ registers cds slave i = length cdm - i
@@ -51,8 +51,8 @@ slice-write-cds c = search needs
 heard-requires : tie.Need-heard-requires Inv-loop μ-loop
 heard-requires c κs = search needs
 
-place-requires : tie.Need-place-requires Inv-loop μ-loop
-place-requires c κs = search needs
+address-requires : tie.Need-address-requires Inv-loop μ-loop
+address-requires c κs = search needs
 
 shared-slice-read-cds : tie.Need-shared-slice-read-cds Inv-loop μ-loop
 shared-slice-read-cds c = search needs
@@ -94,17 +94,17 @@ loop-again c =
       rw (w .2) (l .inv .1),
       rw (w .3, length-set) (l .inv .2),
       rw (w .2, w .3, w .4, w .1 .ensures) (sym (sent-next _ _ cdm (l .cds) (l .i) small room own) ∙ l .inv .3),
-      rw (w .2, w .3, w .4, w .1 .ensures) (sym (left-next _ _ cdm (l .cds) (l .i) small room own) ∙ l .inv .4),
+      rw (w .2, w .3, w .4, w .1 .ensures) (sym (after-next _ _ cdm (l .cds) (l .i) small room own) ∙ l .inv .4),
     ))
     (λ w.
-    let place = w .1 in
+    let address = w .1 in
     let step = w .4 in
-    let own = own-step (l .registers) rights (l .slave) (place .result) _ _ (step .result) (place .ensures .0) (step .ensures) in (
+    let own = own-step (l .registers) rights (l .slave) (address .result) _ _ (step .result) (address .ensures .0) (step .ensures) in (
       search needs,
       rw (w .7, length-set) (l .inv .1),
       rw (w .8, length-set) (l .inv .2),
       rw (w .7, w .8, w .9) (sym (sent-next _ _ cdm (l .cds) (l .i) small room own) ∙ l .inv .3),
-      rw (w .7, w .8, w .9) (sym (left-next _ _ cdm (l .cds) (l .i) small room own) ∙ l .inv .4),
+      rw (w .7, w .8, w .9) (sym (after-next _ _ cdm (l .cds) (l .i) small room own) ∙ l .inv .4),
     ))
     (c .if1 .came)
 
@@ -135,7 +135,7 @@ pass-slave-spec =
     cast-cds
     slice-write-cds
     heard-requires
-    place-requires
+    address-requires
     shared-slice-read-cds
     slice-read-t25
     step-requires

@@ -1,4 +1,4 @@
--- `run::refusal` meets its contract: each answer is the definition at the branch's tests. Assumes nothing.
+-- `run::refusal` meets its contract: each result is the definition at the branch's tests. Assumes nothing.
 use borrow.Author.Needs.{needs}
 use Rattle.laws.proofs.Rules.{cases}
 use Rattle.job.specs.Refusals.{first}

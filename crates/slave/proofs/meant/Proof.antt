@@ -1,7 +1,7 @@
--- `slave::meant` meets its contract: each kind's function answers for its kind. Assumes nothing.
+-- `slave::meant` meets its contract: each phase's function does its phase. Assumes nothing.
 use mathlib.Core.Path.{refl}
 use borrow.Author.Needs.{needs}
-use Rattle.line.specs.Slave.{speak}
+use Rattle.protocol.specs.Slave.{speak}
 use Rattle.slave.proofs.Turns.{quiet, spoke}
 use Rattle.slave.proofs.meant.Statement.{statement}
 use Rattle.slave.proofs.meant.Tie as tie

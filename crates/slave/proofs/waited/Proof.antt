@@ -15,7 +15,7 @@ returns c =
     let slave = c .before .before .before .args .slave in
     let zeros = c .before .counted in
     rw (timer-on (slave .zeros) _ (zeros .ensures) (c .if1 .taken))
-    (sym (timed-anew (zeros .result) (slave .zeros) (formBy (slave .kind) (slave .body))))
+    (sym (timed-anew (zeros .result) (slave .zeros) (formBy (slave .phase) (slave .body))))
 
 returns-2 : tie.Need-returns-2
 returns-2 c = rw (timer-out _ _ (c .before .counted .ensures) (c .if1 .left))

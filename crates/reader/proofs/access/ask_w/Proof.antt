@@ -1,4 +1,4 @@
--- `reader::access::ask_w` meets its contract, a law for each answer. Assumes nothing.
+-- `reader::access::ask_w` meets its contract, a law for each result. Assumes nothing.
 use mathlib.Core.Path.{refl}
 use borrow.Author.Needs.{needs}
 use Rattle.reader.proofs.Accesses.{w-pair}
@@ -9,8 +9,8 @@ use Rattle.reader.proofs.access.ask_w.Tie as tie
 gives-requires : tie.Need-gives-requires
 gives-requires c κs = search needs
 
-answered-requires : tie.Need-answered-requires
-answered-requires c κs = search needs
+accepted-requires : tie.Need-accepted-requires
+accepted-requires c κs = search needs
 
 unlocked-requires : tie.Need-unlocked-requires
 unlocked-requires c κs = search needs
@@ -19,7 +19,7 @@ returns : tie.Need-returns
 returns c = looked (c .gives .ensures) refl refl (search (w-pair, needs))
 
 returns-2 : tie.Need-returns-2
-returns-2 c = c .answered .ensures
+returns-2 c = c .accepted .ensures
 
 returns-3 : tie.Need-returns-3
 returns-3 c = c .unlocked .ensures
@@ -27,4 +27,4 @@ returns-3 c = c .unlocked .ensures
 pub ask-w-spec : {M : Type 1} → statement M
 ask-w-spec =
     tie.close
-    (tie.spec gives-requires answered-requires unlocked-requires returns returns-2 returns-3)
+    (tie.spec gives-requires accepted-requires unlocked-requires returns returns-2 returns-3)

@@ -1,4 +1,4 @@
--- `reader::data::ask_p` meets its contract, a law for each answer. Assumes nothing.
+-- `reader::data::ask_p` meets its contract, a law for each result. Assumes nothing.
 use mathlib.Core.Path.{refl}
 use borrow.Author.Needs.{needs}
 use Rattle.reader.proofs.Accesses.{p-closed, p-last-address, p-last-byte, p-more}

@@ -1,4 +1,4 @@
--- `reader::data::byte_s` meets its contract, a law for each answer. Assumes nothing.
+-- `reader::data::byte_s` meets its contract, a law for each result. Assumes nothing.
 use mathlib.Core.Path.{refl}
 use borrow.Author.Needs.{needs}
 use Rattle.reader.proofs.Accesses.{s-mute, s-reads, s-writes, s-zero}

@@ -1,4 +1,4 @@
--- `reader::data::writes` meets its contract, a law for each answer. Assumes nothing.
+-- `reader::data::writes` meets its contract, a law for each result. Assumes nothing.
 use mathlib.Core.Path.{refl}
 use borrow.Author.Needs.{needs}
 use Rattle.reader.proofs.Accesses.{write-bad, write-echo, write-good, write-on}

@@ -1,4 +1,4 @@
--- `reader::header::head` meets its contract, a law for each answer. Assumes nothing.
+-- `reader::header::head` meets its contract, a law for each result. Assumes nothing.
 use mathlib.Core.Path.{refl}
 use borrow.Author.Needs.{needs}
 use Rattle.reader.proofs.Heads.{head-access, head-bad, head-command, head-on}

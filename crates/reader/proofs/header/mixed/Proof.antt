@@ -1,4 +1,4 @@
--- `reader::header::mixed` meets its contract, a law for each answer. Assumes nothing.
+-- `reader::header::mixed` meets its contract, a law for each result. Assumes nothing.
 use mathlib.Core.Path.{refl}
 use borrow.Author.Needs.{needs}
 use Rattle.reader.proofs.Heads.{mixed-odd, mixed-on}

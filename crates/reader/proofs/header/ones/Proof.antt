@@ -1,4 +1,4 @@
--- `reader::header::ones` meets its contract, a law for each answer. Assumes nothing.
+-- `reader::header::ones` meets its contract, a law for each result. Assumes nothing.
 use mathlib.Core.Path.{refl}
 use borrow.Author.Needs.{needs}
 use Rattle.reader.proofs.Heads.{ones-before, ones-eight, ones-fall, ones-nine, ones-on}

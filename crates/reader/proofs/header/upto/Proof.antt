@@ -1,4 +1,4 @@
--- `reader::header::upto` meets its contract, a law for each answer. Assumes nothing.
+-- `reader::header::upto` meets its contract, a law for each result. Assumes nothing.
 use mathlib.Core.Path.{refl}
 use borrow.Author.Needs.{needs}
 use Rattle.reader.proofs.Heads.{upto-lock, upto-mixed, upto-odd, upto-on}

@@ -22,7 +22,7 @@ returns c =
 returns-2 : tie.Need-returns-2
 returns-2 c =
     let a = c .before .before .args in
-    c .waited .ensures ∙ other-hears (a .self .kind) (a .self .zeros) (a .self .body) (a .master) (c .before .match .keys2)
+    c .waited .ensures ∙ other-hears (a .self .phase) (a .self .zeros) (a .self .body) (a .master) (c .before .match .keys2)
 
 pub heard-spec : {M : Type 1} → statement M
 heard-spec = tie.close (tie.spec enum-told woken-requires waited-requires returns returns-2)

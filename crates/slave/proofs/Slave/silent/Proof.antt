@@ -23,7 +23,7 @@ returns-3 : tie.Need-returns-3
 returns-3 c = rw (c .enum-told3 .given .1)
 
 returns-4 : tie.Need-returns-4
-returns-4 c = let a = c .before .args in may-speak (a .self .kind) (a .self .zeros) (a .self .body) (c .match .keys4)
+returns-4 c = let a = c .before .args in may-speak (a .self .phase) (a .self .zeros) (a .self .body) (c .match .keys4)
 
 pub silent-spec : {M : Type 1} → statement M
 silent-spec =

@@ -1,4 +1,4 @@
--- `slave::Slave::step` meets its contract: the zeros counted, a column is the kind's, or the fourteenth zero. Assumes nothing.
+-- `slave::Slave::step` meets its contract: the zeros counted, a column is the phase's, or the fourteenth zero. Assumes nothing.
 use borrow.Author.Needs.{needs}
 use Rattle.slave.proofs.Turns.{steps-on, steps-end}
 use Rattle.slave.proofs.Slave.step.Statement.{statement}

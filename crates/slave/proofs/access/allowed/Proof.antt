@@ -1,6 +1,6 @@
 -- `slave::access::allowed` meets its contract: a write looks at the right's high bit, a read at its low bit. Assumes nothing.
 use native.Mathlib.Nat.{div-one}
-use Rattle.line.specs.Bits.{bit}
+use Rattle.protocol.specs.Bits.{bit}
 use Rattle.slave.proofs.access.allowed.Statement.{statement}
 use Rattle.slave.proofs.access.allowed.Tie as tie
 

@@ -1,7 +1,7 @@
 -- `slave::access::ask_r` meets its contract. Assumes nothing.
 use mathlib.Core.Path.{refl}
 use borrow.Author.Needs.{needs}
-use Rattle.line.specs.Slave.{speak}
+use Rattle.protocol.specs.Slave.{speak}
 use Rattle.slave.proofs.Turns.{quiet}
 use Rattle.slave.proofs.access.ask_r.Statement.{statement}
 use Rattle.slave.proofs.access.ask_r.Tie as tie

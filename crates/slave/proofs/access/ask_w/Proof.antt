@@ -1,4 +1,4 @@
--- `slave::access::ask_w` meets its contract, a law for each answer. Assumes nothing.
+-- `slave::access::ask_w` meets its contract, a law for each result. Assumes nothing.
 use mathlib.Core.Path.{refl}
 use borrow.Author.Needs.{needs}
 use Rattle.slave.proofs.Accesses.{ask-alike, ask-allowed, ask-refused}

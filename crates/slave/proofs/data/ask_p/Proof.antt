@@ -1,4 +1,4 @@
--- `slave::data::ask_p` meets its contract, a law for each answer. Assumes nothing.
+-- `slave::data::ask_p` meets its contract, a law for each result. Assumes nothing.
 use mathlib.Core.Path.{refl, sym, _∙_}
 use borrow.Author.Needs.{needs}
 use Rattle.slave.proofs.Accesses.{on-few, asks-on, asks-end}

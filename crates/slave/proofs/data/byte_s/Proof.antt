@@ -1,4 +1,4 @@
--- `slave::data::byte_s` meets its contract, a law for each answer. Assumes nothing.
+-- `slave::data::byte_s` meets its contract, a law for each result. Assumes nothing.
 use mathlib.Core.Path.{refl}
 use borrow.Author.Needs.{needs}
 use Rattle.slave.proofs.Accesses.{byte-ends, byte-takes, byte-sends}

@@ -1,7 +1,7 @@
 -- `slave::data::checked` meets its contract: a byte above its check bits is its word. Assumes nothing.
 use native.Mathlib.Omega.{arith}
 use borrow.Author.Needs.{needs}
-use Rattle.line.specs.Division.{word}
+use Rattle.protocol.specs.Division.{word}
 use Rattle.slave.proofs.data.checked.Statement.{statement}
 use Rattle.slave.proofs.data.checked.Tie as tie
 

@@ -1,4 +1,4 @@
--- `slave::data::goes_on` meets its contract, a law for each answer. Assumes nothing.
+-- `slave::data::goes_on` meets its contract, a law for each result. Assumes nothing.
 use borrow.Author.Needs.{needs}
 use Rattle.slave.proofs.Accesses.{on-bad, on-past, on-many, on-right}
 use Rattle.slave.proofs.data.goes_on.Statement.{statement}

@@ -1,4 +1,4 @@
--- `slave::data::sends` meets its contract, a law for each answer. Assumes nothing.
+-- `slave::data::sends` meets its contract, a law for each result. Assumes nothing.
 use mathlib.Core.Path.{refl}
 use borrow.Author.Needs.{needs}
 use Rattle.slave.proofs.Accesses.{sends-on, sends-last}

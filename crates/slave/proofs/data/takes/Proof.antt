@@ -1,4 +1,4 @@
--- `slave::data::takes` meets its contract, a law for each answer. Assumes nothing.
+-- `slave::data::takes` meets its contract, a law for each result. Assumes nothing.
 use mathlib.Core.Path.{refl}
 use borrow.Author.Needs.{needs}
 use Rattle.slave.proofs.Accesses.{takes-on, takes-good, takes-bad}

@@ -1,4 +1,4 @@
--- `slave::header::called` meets its contract, a law for each answer. Assumes nothing.
+-- `slave::header::called` meets its contract, a law for each result. Assumes nothing.
 use borrow.Author.Needs.{needs}
 use Rattle.slave.proofs.Heads.{called-wrong, called-command, called-access}
 use Rattle.slave.proofs.header.called.Statement.{statement}

@@ -1,4 +1,4 @@
--- `slave::header::head` meets its contract, a law for each answer. Assumes nothing.
+-- `slave::header::head` meets its contract, a law for each result. Assumes nothing.
 use mathlib.Core.Path.{refl}
 use borrow.Author.Needs.{needs}
 use Rattle.slave.proofs.Heads.{head-on, head-called, head-deaf}

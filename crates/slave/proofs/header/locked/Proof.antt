@@ -1,4 +1,4 @@
--- `slave::header::locked` meets its contract, a law for each answer. Assumes nothing.
+-- `slave::header::locked` meets its contract, a law for each result. Assumes nothing.
 use borrow.Author.Needs.{needs}
 use Rattle.slave.proofs.Heads.{lock-holds, lock-passes, lock-before, lock-takes, lock-past}
 use Rattle.slave.proofs.header.locked.Statement.{statement}

@@ -1,4 +1,4 @@
--- `slave::header::locks` meets its contract, a law for each answer. Assumes nothing.
+-- `slave::header::locks` meets its contract, a law for each result. Assumes nothing.
 use mathlib.Core.Path.{refl}
 use borrow.Author.Needs.{needs}
 use Rattle.slave.proofs.Heads.{locks-on, locks-end}

@@ -1,0 +1,176 @@
+-- Worked rows: the bench card's run and the small cases below it, and every kind on the smallest damage that shows it, each expected list
+-- worked out from paper 01 by hand. They hold what no law reaches: the kinds of breaches, the four rights, fourteen zeros and 64 bytes. And
+-- the table of kinds, each with its six bytes and its line of text, and what is no list. One theorem over each list, by computation.
+-- Assumes nothing.
+--
+-- The rows are a built request's, with bits flipped in the master row or in the chain's answers to it:
+--
+--   column  0 .. 13  14  15 .. 23      24 .. 29   30  31  32  33 .. 40  41 .. 44  45
+--           zeros    S   header, IDL   header     R   W   S   data      check     P
+use mathlib.Core.Path.{_≡_, refl}
+use mathlib.Core.Bool.{Bool, true, false, not}
+use mathlib.Core.List.{List, [], _∷_, _++_, map}
+use Prim.Native.Nat.{ℕ, zero, suc, _+_, _*_}
+use Prim.Native.String.{String}
+use lib.ListN.{replicate, drop}
+use Rattle.protocol.specs.Bits.{bit, bits, push}
+use Rattle.protocol.specs.Rest.{judge, timer}
+use Rattle.protocol.specs.Division.{divideBit, divide, remainder, check, word, fits, byteOf}
+use Rattle.protocol.specs.Header.{header}
+use Rattle.protocol.specs.Memory.{Memory, allows, holds, stored}
+use Rattle.protocol.specs.Building.{read, write, command, readBytes, writeBytes, frameOf, rowFor}
+use Rattle.protocol.specs.Entries.{Kind, event, opened, Entry, bytes, numbered}
+use Rattle.protocol.specs.Pieces.{inBytes, numberAt, cut, pieces, isWhole}
+use Rattle.protocol.specs.Layout.{current, fieldBytes, bytesOf, entriesOf, entriesIn, allEntries, isList}
+use Rattle.protocol.specs.Text.{digitsIn, decimal, field, cells, entryLine, entryLines}
+use Rattle.protocol.specs.Slave
+use Rattle.protocol.specs.Chain
+use Rattle.protocol.specs.Reader
+use Rattle.laws.proofs.Table.{tabulate}
+use Rattle.protocol.proofs.Drawn.{holding, one, columnsOf, drawn}
+
+flip : ℕ → List Bool → List Bool
+flip zero [] = []
+flip (suc n) [] = []
+flip zero (b ∷ bs) = not b ∷ bs
+flip (suc n) (b ∷ bs) = b ∷ flip n bs
+
+flips : List ℕ → List Bool → List Bool
+flips [] bs = bs
+flips (n ∷ ns) bs = flip n (flips ns bs)
+
+pub record Sample : Type 0 where
+  pub chain : List Memory
+  pub row : List Bool
+  pub damage : List ℕ
+  pub shows : List Entry
+
+pub listed : Sample → List Entry
+listed s =
+    Reader.listFrom 0 (Reader.columns (s .row) (flips (s .damage) (Chain.answersFrom (s .chain) (s .row))))
+
+-- the chain, the master row, the columns whose answers are flipped, the list
+sample : List Memory → List Bool → List ℕ → List Entry → Sample
+sample chain row damage shows = record { chain = chain; row = row; damage = damage; shows = shows }
+
+-- The built read of ID 0, address 44, one byte, and one zero more; the built write of 5B there.
+reading : List Bool
+reading = rowFor (read 0 0x44 1) ++ false ∷ []
+
+writing : List Bool
+writing = rowFor (write 0 0x44 (0x5B ∷ []))
+
+-- An entry: its kind, column, id, address and value.
+unfoldable pub entry : Kind → (column id address value : ℕ) → Entry
+entry kind column id address value = record { place = opened column; event = event kind id address value }
+
+locked : Entry
+locked = entry Kind.lock 23 0 0 1
+
+ended : List Entry
+ended = entry Kind.end 46 0 0 0 ∷ []
+
+pub samples : List Sample
+samples =
+    -- the bench run; the same without its last column; with thirteen zeros before S
+    sample (one 3) reading [] (locked ∷ entry Kind.read 44 0 68 90 ∷ ended)
+    ∷ sample (one 3) (rowFor (read 0 0x44 1)) [] (locked ∷ entry Kind.read 44 0 68 90 ∷ [])
+    ∷ sample (one 3) (drop 1 reading) [] []
+    -- two slaves: the far one is ID 0
+    ∷ sample (holding 0x44 0x5A 3 ∷ holding 0x44 0x11 3 ∷ []) reading []
+    (entry Kind.lock 23 0 0 2 ∷ entry Kind.read 44 0 68 90 ∷ ended)
+    ∷ sample (holding 0x44 0x5A 3 ∷ holding 0x44 0x11 3 ∷ []) (rowFor (read 1 0x44 1)) []
+    (entry Kind.lock 23 0 0 2 ∷ entry Kind.read 44 1 68 17 ∷ [])
+    -- IDL2 is 1 after IDL1 was 0
+    ∷ sample (one 3) reading (17 ∷ []) (entry Kind.lockodd 23 0 0 0 ∷ ended)
+    -- the last check bit of the header; the header alone with CTS = 0
+    ∷ sample (one 3) (flips (29 ∷ []) reading) [] (locked ∷ entry Kind.badhead 29 0 0 0 ∷ ended)
+    ∷ sample (one 3) (rowFor (command 0 2)) [] (locked ∷ entry Kind.command 29 2 0 0 ∷ [])
+    -- IDS: its first bit is ID 0's and stands highest
+    ∷ sample (one 3) (drawn "00000000000000 1 0 100 00000 01 0001") [] (locked ∷ entry Kind.command 29 1 0 128 ∷ [])
+    -- S, CTS = 1 and fourteen zeros: the fourteenth is the header's last column
+    ∷ sample (one 3) (replicate 14 false ++ true ∷ true ∷ replicate 14 false) [] (locked ∷ entry Kind.end 29 0 0 0 ∷ [])
+    -- R = W; an ID that nobody holds; no right to read, and none to write
+    ∷ sample (one 3) (flips (31 ∷ []) reading) [] (locked ∷ entry Kind.pair 31 0 68 0 ∷ ended)
+    ∷ sample (one 3) (rowFor (read 1 0x44 1)) [] (locked ∷ entry Kind.absent 31 1 68 0 ∷ [])
+    ∷ sample (one 2) reading [] (locked ∷ entry Kind.refused 31 0 68 0 ∷ ended)
+    ∷ sample (one 1) writing [] (locked ∷ entry Kind.refused 31 0 68 1 ∷ [])
+    ∷ sample (one 0) reading [] (locked ∷ entry Kind.refused 31 0 68 0 ∷ ended)
+    -- a locked ID that does not repeat the R of a read, and of a write; one that is not locked and accepts a read, and a write
+    ∷ sample (one 3) reading (30 ∷ []) (locked ∷ entry Kind.odd 31 0 68 0 ∷ ended)
+    ∷ sample (one 3) writing (30 ∷ []) (locked ∷ entry Kind.odd 31 0 68 3 ∷ [])
+    ∷ sample (one 3) reading (15 ∷ []) (entry Kind.lock 23 0 0 0 ∷ entry Kind.odd 31 0 68 2 ∷ ended)
+    ∷ sample (one 3) writing (15 ∷ []) (entry Kind.lock 23 0 0 0 ∷ entry Kind.odd 31 0 68 1 ∷ [])
+    -- S = 1 answered 0, with a 1 of the master after it; a data bit of the answer, and a byte after it; P answered 1
+    ∷ sample (one 3) (flips (33 ∷ []) reading) (32 ∷ []) (locked ∷ entry Kind.mute 32 0 68 0 ∷ [])
+    ∷ sample (one 3) (rowFor (read 0 0x44 2)) (33 ∷ []) (locked ∷ entry Kind.readbad 44 0 68 218 ∷ entry Kind.read 58 0 69 0 ∷ [])
+    ∷ sample (one 3) reading (45 ∷ []) (locked ∷ entry Kind.read 44 0 68 90 ∷ entry Kind.closed 45 0 68 0 ∷ ended)
+    -- a write; a data bit of the master; the last bit of the echo; another, and a byte after it; both
+    ∷ sample (one 2) writing [] (locked ∷ entry Kind.written 44 0 68 91 ∷ [])
+    ∷ sample (one 3) (flips (33 ∷ []) writing) [] (locked ∷ entry Kind.writebad 44 0 68 219 ∷ entry Kind.closed 45 0 68 0 ∷ [])
+    ∷ sample (one 3) writing (44 ∷ []) (locked ∷ entry Kind.echo 44 0 68 91 ∷ [])
+    ∷ sample (one 3) (rowFor (write 0 0x44 (0x5B ∷ 0x01 ∷ []))) (34 ∷ [])
+    (locked ∷ entry Kind.echo 44 0 68 91 ∷ entry Kind.written 58 0 69 1 ∷ [])
+    ∷ sample (one 3) (flips (33 ∷ []) writing) (34 ∷ 45 ∷ []) (locked ∷ entry Kind.writebad 44 0 68 219 ∷ [])
+    -- the last address: P is 1; P answered 0 there, and a 1 after it
+    ∷ sample (one 1) (rowFor (read 0 0x7F 1)) []
+    (locked ∷ entry Kind.read 44 0 127 0 ∷ entry Kind.closed 45 0 127 0 ∷ [])
+    ∷ sample (one 1) (rowFor (read 0 0x7F 1) ++ true ∷ []) (45 ∷ [])
+    (locked ∷ entry Kind.read 44 0 127 0 ∷ entry Kind.odd 45 0 127 4 ∷ [])
+    -- P answered 0 at the 64th byte
+    ∷ sample (one 1) (rowFor (read 0 0x00 64)) (927 ∷ [])
+    (locked ∷ tabulate (λ i. entry Kind.read (44 + 14 * i) 0 i 0) 0 64 ++ entry Kind.odd 927 0 63 4 ∷ [])
+    ∷ []
+
+pub samples-hold : map listed samples ≡ map (λ s. s .shows) samples
+unfolding samples sample entry listed flips flip reading writing locked ended holding one columnsOf rowFor frameOf readBytes writeBytes word check remainder divide divideBit bit bits push fits byteOf header allows holds stored judge timer Slave.lock Slave.called Slave.more Slave.speak Slave.step Chain.pass Chain.answers Chain.switchedOn Chain.answersFrom Reader.seen Reader.locked Reader.headed Reader.asked Reader.look Reader.step Reader.columns Reader.entries Reader.listFrom
+samples-hold = refl
+
+-- A kind, and what is expected of its entry in column 300 with id 5, address 68 and value 90: its six bytes, and its line.
+pub record KindLine : Type 0 where
+  pub kind : Kind
+  pub six : List ℕ
+  pub line : String
+
+-- the kind, its number, the fields id, address and value, the line
+kindLine : Kind → (number id address value : ℕ) → String → KindLine
+kindLine kind number id address value line =
+    record { kind = kind; six = number ∷ 1 ∷ 44 ∷ id ∷ address ∷ value ∷ []; line = line }
+
+pub kindLines : List KindLine
+kindLines =
+    kindLine Kind.lock 1 0 0 90 "lock\t300\t-\t-\t90\n"
+    ∷ kindLine Kind.lockodd 2 0 0 0 "lockodd\t300\t-\t-\t-\n"
+    ∷ kindLine Kind.badhead 3 0 0 0 "badhead\t300\t-\t-\t-\n"
+    ∷ kindLine Kind.command 4 5 0 90 "command\t300\t5\t-\t90\n"
+    ∷ kindLine Kind.pair 5 5 68 0 "pair\t300\t5\t68\t-\n"
+    ∷ kindLine Kind.absent 6 5 68 0 "absent\t300\t5\t68\t-\n"
+    ∷ kindLine Kind.refused 7 5 68 90 "refused\t300\t5\t68\t90\n"
+    ∷ kindLine Kind.odd 8 5 68 90 "odd\t300\t5\t68\t90\n"
+    ∷ kindLine Kind.mute 9 5 68 0 "mute\t300\t5\t68\t-\n"
+    ∷ kindLine Kind.read 10 5 68 90 "read\t300\t5\t68\t90\n"
+    ∷ kindLine Kind.written 11 5 68 90 "written\t300\t5\t68\t90\n"
+    ∷ kindLine Kind.readbad 12 5 68 90 "readbad\t300\t5\t68\t90\n"
+    ∷ kindLine Kind.writebad 13 5 68 90 "writebad\t300\t5\t68\t90\n"
+    ∷ kindLine Kind.echo 14 5 68 90 "echo\t300\t5\t68\t90\n"
+    ∷ kindLine Kind.end 15 0 0 0 "end\t300\t-\t-\t-\n"
+    ∷ kindLine Kind.closed 16 5 68 0 "closed\t300\t5\t68\t-\n"
+    ∷ []
+
+pub kinds-hold : map (λ s. bytesOf current (entry (s .kind) 300 5 68 90)) kindLines ≡ map (λ s. s .six) kindLines
+unfolding kindLines kindLine entry bytesOf fieldBytes inBytes
+kinds-hold = refl
+
+pub kinds-print : map (λ s. entryLines (entriesIn current (s .six))) kindLines ≡ map (λ s. bytes (s .line)) kindLines
+unfolding kindLines kindLine numbered pieces cut numberAt entriesIn entriesOf digitsIn decimal field cells entryLine entryLines
+kinds-print = refl
+
+-- Refusal 12: lengths 0 to 12, of kind 1 throughout; kinds 0, 1, 16 and 17.
+lengths-hold : tabulate (λ n. isList current (replicate n 1)) 0 13
+    ≡ true ∷ false ∷ false ∷ false ∷ false ∷ false ∷ true ∷ false ∷ false ∷ false ∷ false ∷ false ∷ true ∷ []
+unfolding isList isWhole allEntries pieces cut numberAt numbered
+lengths-hold = refl
+
+numbers-hold : map (λ k. isList current (k ∷ 0 ∷ 0 ∷ 0 ∷ 0 ∷ 0 ∷ [])) (0 ∷ 1 ∷ 16 ∷ 17 ∷ []) ≡ false ∷ true ∷ true ∷ false ∷ []
+unfolding isList isWhole allEntries pieces cut numberAt numbered
+numbers-hold = refl

@@ -1,0 +1,92 @@
+-- What is promised of the definitions, in the words of paper 01 and of its demand 3, each with the modules that prove it. They speak of
+-- chains of any length and rows of any length. Assumes nothing.
+use mathlib.Core.Path.{_≡_, sym, _∙_}
+use mathlib.Core.Bool.{Bool, true, false}
+use mathlib.Core.List.{List, [], _∷_, _++_}
+use Prim.Native.Nat.{ℕ, suc, _+_, _^_, _<_}
+use native.Mathlib.Omega.{arith}
+use lib.ListN.{length, take, drop, replicate}
+use Rattle.protocol.specs.Limits.{restZeros}
+use Rattle.protocol.specs.Rest.{Timed, rest, powerOn}
+use Rattle.protocol.specs.Division.{dataBits}
+use Rattle.protocol.specs.Memory.{Memory}
+use Rattle.protocol.specs.Slave.{Slave}
+use Rattle.protocol.specs.Chain.{switchedOn, answersFrom, memoriesAfter}
+use Rattle.protocol.specs.Chain
+use Rattle.protocol.specs.Building.{read, write, command, rowFor}
+use Rattle.protocol.specs.Entries.{Kind, opened}
+use Rattle.protocol.specs.Reader.{Phase, Column, columns, listFrom, begun}
+use Rattle.protocol.specs.Reader
+use Rattle.protocol.specs.Account.{account}
+use Rattle.protocol.specs.Replay.{replay, Shows}
+use Rattle.protocol.specs.Understood.{listed, Allowed, lockShown, commandShown, bytesShown, standing, closing}
+use Rattle.protocol.specs.Late.{Zeros, FirstFourteen, NoFourteen, fromColumn}
+use Rattle.protocol.proofs.Rest.{fourteen}
+use Rattle.laws.proofs.Every.{Every}
+use Rattle.protocol.proofs.Memories.{Bytes}
+use Rattle.protocol.proofs.Late.{masters, masters-drop, rests, from-fourteen, from-first, none-later, sleeps}
+use Rattle.protocol.proofs.Rows.{soon-after, all-soon}
+use Rattle.protocol.proofs.Whole.{whole}
+use Rattle.protocol.proofs.Understood.{read-shown, write-shown, command-shown}
+use Rattle.protocol.proofs.Twins.{Alike, twins, same-answers}
+use Rattle.protocol.proofs.Honest.{Sound, fair-along}
+
+-- The list that a reader makes of a master row and the chain's answers to it is the chain's own account, where registers hold bytes.
+pub list-is-account : (ks : List Memory) (row : List Bool) → Bytes ks → listFrom 0 (columns row (answersFrom ks row)) ≡ account ks row
+list-is-account ks row bs = whole ks row bs .list
+
+-- The list's writes replayed on the starting registers leave the registers that the chain has after the row.
+pub replay-is-final : (ks : List Memory) (row : List Bool) → Bytes ks
+    → replay ks (listFrom 0 (columns row (answersFrom ks row))) ≡ memoriesAfter ks row
+replay-is-final ks row bs = rw (whole ks row bs .list) (whole ks row bs .replayed)
+
+-- Each read in the list shows the byte that stood there then: in the replay of the entries before it.
+pub reads-show : (ks : List Memory) (row : List Bool) → Bytes ks → Shows ks (listFrom 0 (columns row (answersFrom ks row)))
+reads-show ks row bs = rw (whole ks row bs .list) (whole ks row bs .shown)
+
+-- A built read is understood: of a chain that holds the ID and allows the access at each address, the list is `lock`, a `read` of each
+-- byte that stands there, in its last check column, and in the last P `closed` exactly if the slave would not go on ..
+pub read-understood : (ks : List Memory) (k : Memory) (id address n : ℕ) → Bytes ks → Allowed ks k false id address (suc n)
+    → listed ks (rowFor (read id address (suc n)))
+    ≡ lockShown ks ∷ bytesShown Kind.read id address 0 (standing k address (suc n)) ++ closing k false id address n
+read-understood ks k id address n bs a = list-is-account ks _ bs ∙ read-shown ks bs k id address n a
+
+-- .. a built write alike, with `written` and the bytes lent ..
+pub write-understood : (ks : List Memory) (k : Memory) (id address v : ℕ) (vs : List ℕ) → Bytes ks
+    → Allowed ks k true id address (length (v ∷ vs)) → Every (λ b. b < 2 ^ dataBits) (v ∷ vs)
+    → listed ks (rowFor (write id address (v ∷ vs)))
+    ≡ lockShown ks ∷ bytesShown Kind.written id address 0 (v ∷ vs) ++ closing k true id address (length vs)
+write-understood ks k id address v vs bs a h = list-is-account ks _ bs ∙ write-shown ks bs k id address v vs a h
+
+-- .. and of a built command the list is `lock` and `command`, whatever the chain.
+pub command-understood : (ks : List Memory) (ids cmd : ℕ) → Bytes ks → ids < 2 ^ 8 → cmd < 2 ^ 2
+    → listed ks (rowFor (command ids cmd)) ≡ lockShown ks ∷ commandShown ids cmd ∷ []
+command-understood ks ids cmd bs h k = list-is-account ks _ bs ∙ command-shown ks bs ids cmd h k
+
+-- A reader let in at column k lists of any columns what the whole list has after the first fourteen master zeros that lie
+-- wholly at or after k ..
+pub late-opening : (cs : List Column) (k j : ℕ) → FirstFourteen (masters cs) k j → listFrom k cs ≡ fromColumn (j + restZeros) (listFrom 0 cs)
+late-opening cs k j f = from-first cs k j f ∙ sym (from-fourteen cs j (f .fourteen))
+
+-- .. and nothing where there are no such zeros.
+pub late-nothing : (cs : List Column) (k : ℕ) → NoFourteen (masters cs) k → listFrom k cs ≡ []
+unfolding listFrom
+late-nothing cs k f = sleeps (drop k cs) 0 (opened k) (omega arith) (none-later (masters cs) _ k k (sym (masters-drop k cs)) (omega arith) f)
+
+-- Two runs with the same rights and master row that differ only in registers without the read right give the same answer row.
+pub two-runs : (ks ks′ : List Memory) (row : List Bool) → Alike ks ks′ → answersFrom ks row ≡ answersFrom ks′ row
+unfolding answersFrom
+two-runs ks ks′ row h = same-answers (switchedOn ks) (switchedOn ks′) row (twins ks ks′ h)
+
+-- From any state, columns that begin with fourteen master zeros bring the reader to rest, whatever their answers ..
+pub reader-rests : (s : Timed Phase) (cs : List Column) → Zeros restZeros (masters cs) → Reader.after s (take restZeros cs) ≡ rest
+reader-rests s cs zeros = rests restZeros s cs (fourteen begun s) zeros
+
+-- .. and fourteen zeros bring every slave of any chain to rest, from any states.
+pub slaves-rest : (ss : List Slave) → Every (λ s. s .state ≡ rest) (Chain.after ss (replicate restZeros false))
+slaves-rest ss = soon-after restZeros ss (all-soon ss)
+
+-- The chain's account never holds lockodd, odd, mute, readbad or echo.
+pub no-breaches : (ks : List Memory) (row : List Bool) → Every (λ e. Sound (e .event)) (account ks row)
+unfolding account
+no-breaches ks row = fair-along (switchedOn ks) powerOn (opened 0) row

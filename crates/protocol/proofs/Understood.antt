@@ -1,0 +1,210 @@
+-- A built row is understood, shown of the account: the header says what was asked for, a byte carries what stands there or was lent,
+-- and P goes on to the next. The columns of a header and of a byte are computed; byte follows byte by induction. Assumes nothing.
+use mathlib.Core.Path.{_≡_, refl, ap, ap₂, _∙_}
+use mathlib.Core.Bool.{Bool, true, false, not, cond}
+use mathlib.Core.List.{List, [], _∷_, _++_, append-nil, head-eq-of-cons-eq, tail-eq-of-cons-eq}
+use mathlib.Core.Option.{some}
+use Prim.Native.Nat.{ℕ, zero, suc, _+_, _/_, _^_, _<_}
+use native.Mathlib.Nat.{add-zero, add-assoc, div-eq-of-lt, div-one}
+use native.Mathlib.Omega.{arith}
+use borrow.Author.Tests.{lt-ltb}
+use lib.ListN.{length, replicate, getElem?, set}
+use Rattle.protocol.specs.Limits.{restZeros, headerColumns, registerCount, byteLimit}
+use Rattle.protocol.specs.Bits.{bits, push}
+use Rattle.protocol.specs.Rest.{judge, timer}
+use Rattle.protocol.specs.Division.{headerBits, dataBits, topBit, word, fits, byteOf}
+use Rattle.protocol.specs.Header.{Header, header, accessWord, commandWord}
+use Rattle.protocol.specs.Memory.{Memory, allows, holds, stored}
+use Rattle.protocol.specs.Slave.{more}
+use Rattle.protocol.specs.Building.{frameHead, readBytes, writeBytes, frameOf, rowFor}
+use Rattle.protocol.specs.Building
+use Rattle.protocol.specs.Entries.{Kind, event, Entry}
+use Rattle.protocol.specs.Account.{Phase, askR, byteS, askP, Told, headed, asked, tell, begun, step, account}
+use Rattle.protocol.specs.Replay.{put}
+use Rattle.protocol.specs.Understood.{frameAt, inFrame, Allowed, lockShown, commandShown, byteColumn, byteShown, bytesShown, standing, closing}
+use Rattle.protocol.proofs.Words.{push-bit, word-lt, byte-word, header-access, header-command}
+use Rattle.protocol.proofs.Division.{accepted}
+use Rattle.laws.proofs.Every.{Every, tested, beq-not}
+use Rattle.laws.proofs.Places.{at-set}
+use Rattle.protocol.proofs.Memories.{Bytes, stored-set}
+use Rattle.protocol.proofs.Sim.{kept}
+use Rattle.protocol.proofs.Zeros.{asking, carrying, none-carried, frame-asking, calm, header-calm, access-calm}
+use Rattle.protocol.proofs.Walk.{Walk, noted, walk, phases, account-walk, walk-phases}
+
+-- The bits of a word, collected as they come, are the word.
+pushed : ℕ → List Bool → ℕ
+pushed w [] = w
+pushed w (b ∷ bs) = pushed (push w b) bs
+
+pushed-bits : (n w : ℕ) → w < 2 ^ 16 → pushed (w / 2 ^ n) (bits n w) ≡ w
+unfolding pushed bits
+pushed-bits zero w h = div-one w
+pushed-bits (suc n) w h = ap (λ (u : ℕ). pushed u (bits n w)) (push-bit n w h) ∙ pushed-bits n w h
+
+collected : (n w : ℕ) → w < 2 ^ 16 → w < 2 ^ n → pushed 0 (bits n w) ≡ w
+collected n w h l = rw (div-eq-of-lt l) at (pushed-bits n w h)
+
+-- An entry given, before what follows.
+abbrev gave : {S : Type 0} → Entry → Walk S → Walk S
+gave e w = noted (e .place) (some (e .event)) w
+
+module _ (ks : List Memory) (v : ℕ) (next : List Bool) (small : v < 2 ^ headerBits) where
+  -- What a header says in its last column, and what follows it.
+  from-header : Header → Walk Phase
+  from-header h =
+      let t : Told = headed h in
+      noted (frameAt (restZeros + headerColumns)) (t .says)
+      (phases (kept ks (t .says)) (t .next) (frameAt (restZeros + headerColumns + 1)) next)
+
+  header-shown : phases ks begun (frameAt (restZeros + 1)) (bits headerColumns (word headerBits v) ++ next)
+      ≡ gave (lockShown ks) (from-header (header (word headerBits v)))
+  unfolding phases tell bits put pushed from-header
+  header-shown =
+      ap (λ (w : ℕ). gave (lockShown ks) (from-header (header w)))
+      (collected headerColumns (word headerBits v) (omega (arith, word-lt headerBits v small)) (word-lt headerBits v small))
+
+  -- Fourteen zeros and S before it.
+  frame-head-shown : Bytes ks → calm 0 (frameHead v ++ next) ≡ true
+      → account ks (replicate restZeros false ++ (frameHead v ++ next)) ≡ lockShown ks ∷ from-header (header (word headerBits v)) .told
+  unfolding walk step judge timer calm
+  frame-head-shown bs z =
+      account-walk ks _ bs
+      ∙ ap (λ (w : Walk _). w .told) (walk-phases ks begun 0 (frameAt (restZeros + 1)) (bits headerColumns (word headerBits v) ++ next) z)
+      ∙ ap (λ (w : Walk _). w .told) header-shown
+
+-- The kind of a byte's entry, and the memory after it; the rights are what they were.
+kindOf : (write : Bool) → Kind
+kindOf false = Kind.read
+kindOf true = Kind.written
+
+after : (write : Bool) → Memory → (address v : ℕ) → Memory
+after write k address v = record { registers = cond write (set (k .registers) address v) (k .registers); rights = k .rights }
+
+-- The bytes of a read are those that stand there; those of a write are below 256.
+Carried : (write : Bool) → Memory → (address : ℕ) → List ℕ → Type 0
+Carried false k address vs = standing k address (length vs) ≡ vs
+Carried true k address vs = Every (λ v. v < 2 ^ dataBits) vs
+
+carried-next : (write : Bool) (k : Memory) (address i v : ℕ) (vs : List ℕ) → Carried write k (address + i) (v ∷ vs)
+    → Carried write (after write k (address + i) v) (address + (i + 1)) vs
+unfolding Carried after standing
+carried-next false k address i v vs h = rw (← add-assoc address i 1) (tail-eq-of-cons-eq h)
+carried-next true k address i v vs h = h .1
+
+-- An entry of the frame given, and what follows it from its phase on.
+abbrev gives : List Memory → Entry → Phase → List Bool → Walk Phase
+gives ks e q next = gave e (phases (put ks (e .event)) q (frameAt (suc (e .place .column))) next)
+
+-- Byte i up to its P.
+byte-shown : (write : Bool) (i v : ℕ) (vs : List ℕ) {ks : List Memory} {k : Memory} {id address count : ℕ}
+    → Allowed ks k write id address count → Carried write k (address + i) (v ∷ vs)
+    → phases ks (byteS write id (address + i) (i + 1)) (frameAt (byteColumn i)) (carrying write (v ∷ vs))
+    ≡ gives ks (byteShown (kindOf write) id address i v) (askP write true id (address + i) (i + 1)) (false ∷ carrying write vs)
+unfolding phases tell readBytes writeBytes bits pushed put kindOf Carried standing
+byte-shown false i v vs {ks} {id = id} {address} a h =
+    ap₂ (λ (c u : ℕ). gives ks (inFrame c (event Kind.read id (address + i) u)) (askP false true id (address + i) (i + 1)) (false ∷ carrying false vs))
+    (omega arith) (rw (a .held) (head-eq-of-cons-eq h))
+byte-shown true i v vs {ks} {id = id} {address} a h =
+    let l : word dataBits v < 2 ^ (topBit + 1) = word-lt dataBits v (h .0) in
+    ap₂ (λ (c u : ℕ). gives ks (inFrame c (event (cond (fits dataBits u) Kind.written Kind.writebad) id (address + i) (byteOf u)))
+    (askP true (fits dataBits u) id (address + i) (i + 1)) (false ∷ carrying true vs))
+    {y = byteColumn i + (topBit + 1)} (omega arith) (collected (topBit + 1) (word dataBits v) (omega arith) l)
+    ∙ rw (accepted dataBits v, byte-word v (h .0))
+
+module _ {ks : List Memory} {k : Memory} {write : Bool} {id address count : ℕ} (a : Allowed ks k write id address count) where
+  -- R and W, and on to byte 0.
+  asked-shown : (next : List Bool) → 0 < count
+      → phases ks (askR id address) (frameAt (restZeros + headerColumns + 1)) (not write ∷ write ∷ next)
+      ≡ phases ks (byteS write id (address + 0) 1) (frameAt (byteColumn 0)) next
+  unfolding phases tell asked
+  asked-shown next h =
+      let r : allows k write address ≡ true = rw add-zero at (a .allowed 0 h) in
+      rw (beq-not write, a .held, r, add-zero address)
+
+  -- P of byte i, the last ..
+  last-shown : (i : ℕ) → phases ks (askP write true id (address + i) (i + 1)) (frameAt (suc (byteColumn i + (topBit + 1)))) (false ∷ []) .told
+      ≡ closing k write id address i
+  unfolding phases tell
+  last-shown i =
+      let c : suc (byteColumn i + (topBit + 1)) ≡ byteColumn i + (topBit + 2) = omega arith in
+      rw (a .held, c) (tested (more k write (address + i) (i + 1)) (λ q. rw q) (λ q. rw q))
+
+  -- .. or not, and on to the next.
+  goes-shown : (i : ℕ) (next : List Bool) → i + 1 < count
+      → phases ks (askP write true id (address + i) (i + 1)) (frameAt (suc (byteColumn i + (topBit + 1)))) (false ∷ next)
+      ≡ phases ks (byteS write id (address + (i + 1)) (i + 1 + 1)) (frameAt (byteColumn (i + 1))) next
+  unfolding phases tell more
+  goes-shown i next h =
+      let c : suc (suc (byteColumn i + (topBit + 1))) ≡ byteColumn (i + 1) = omega arith in
+      let there : address + (i + 1) < registerCount = omega arith in
+      let few : i + 1 < byteLimit = omega arith in
+      rw (a .held, add-assoc address i 1, lt-ltb _ _ there, a .allowed (i + 1) h, lt-ltb _ _ few, c)
+
+  -- A byte takes no right away.
+  allowed-after : (i v : ℕ)
+      → Allowed (put ks (byteShown (kindOf write) id address i v .event)) (after write k (address + i) v) write id address count
+  unfolding put kindOf after stored allows
+  allowed-after i v =
+      record { numbered = a .numbered; held = held write; there = a .there; few = a .few; allowed = a .allowed }
+    where
+      held : (w : Bool) → getElem? (put ks (byteShown (kindOf w) id address i v .event)) id ≡ some (after w k (address + i) v)
+      held false = a .held
+      held true = rw (stored-set ks id (address + i) v k (a .held)) (at-set ks id k (stored k (address + i) v) (a .held))
+
+-- Byte i and those after it, the last of them byte n.
+bytes-shown : (write : Bool) (i v n : ℕ) (vs : List ℕ) {ks : List Memory} {k : Memory} {id address : ℕ} → i + length vs ≡ n
+    → Allowed ks k write id address (suc n) → Carried write k (address + i) (v ∷ vs)
+    → phases ks (byteS write id (address + i) (i + 1)) (frameAt (byteColumn i)) (carrying write (v ∷ vs)) .told
+    ≡ bytesShown (kindOf write) id address i (v ∷ vs) ++ closing k write id address n
+unfolding bytesShown more allows after
+bytes-shown write i v n [] e a h =
+    let last : n ≡ i = omega arith in
+    rw (byte-shown write i v [] a h, none-carried write, last-shown (allowed-after a i v) i, last)
+bytes-shown write i v n (w ∷ vs) {k = k} {id} {address} e a h =
+    rw (byte-shown write i v (w ∷ vs) a h, goes-shown (allowed-after a i v) i (carrying write (w ∷ vs)) (omega arith))
+    (ap (λ (l : List Entry). byteShown (kindOf write) id address i v ∷ l)
+    (bytes-shown write (i + 1) w n vs (omega arith) (allowed-after a i v) (carried-next write k address i v (w ∷ vs) h)))
+
+length-standing : (k : Memory) (address n : ℕ) → length (standing k address n) ≡ n
+unfolding standing
+length-standing k address zero = refl
+length-standing k address (suc n) = ap suc (length-standing k (address + 1) n)
+
+-- The accounts of the three requests.
+module _ (ks : List Memory) (bs : Bytes ks) where
+  access-shown : (write : Bool) (k : Memory) (id address v : ℕ) (vs : List ℕ) → Allowed ks k write id address (suc (length vs))
+      → Carried write k address (v ∷ vs) → account ks (rowFor (asking write id address (v ∷ vs)))
+      ≡ lockShown ks ∷ bytesShown (kindOf write) id address 0 (v ∷ vs) ++ closing k write id address (length vs)
+  unfolding rowFor headed from-header
+  access-shown write k id address v vs a h =
+      let next : List Bool = carrying write (v ∷ vs) in
+      rw (
+        frame-asking write id address (v ∷ vs),
+        frame-head-shown ks (accessWord id address) (not write ∷ write ∷ next) (omega arith) bs
+            (rw frame-asking at (access-calm write id address (v ∷ vs) (a .numbered) (omega arith))),
+        header-access id address (a .numbered) (omega arith),
+        asked-shown a next (omega arith),
+        bytes-shown write 0 v (length vs) vs (omega arith) a (rw add-zero h),
+      )
+
+  pub read-shown : (k : Memory) (id address n : ℕ) → Allowed ks k false id address (suc n)
+      → account ks (rowFor (Building.read id address (suc n)))
+      ≡ lockShown ks ∷ bytesShown Kind.read id address 0 (standing k address (suc n)) ++ closing k false id address n
+  unfolding standing Carried kindOf
+  read-shown k id address n a =
+      let l : length (standing k (address + 1) n) ≡ n = length-standing k (address + 1) n in
+      rw l at (access-shown false k id address (holds k address) (standing k (address + 1) n) (rw l a) (rw l))
+
+  pub write-shown : (k : Memory) (id address v : ℕ) (vs : List ℕ) → Allowed ks k true id address (suc (length vs))
+      → Every (λ v. v < 2 ^ dataBits) (v ∷ vs) → account ks (rowFor (Building.write id address (v ∷ vs)))
+      ≡ lockShown ks ∷ bytesShown Kind.written id address 0 (v ∷ vs) ++ closing k true id address (length vs)
+  unfolding Carried kindOf
+  write-shown k id address v vs a h = access-shown true k id address v vs a h
+
+  pub command-shown : (ids cmd : ℕ) → ids < 2 ^ 8 → cmd < 2 ^ 2
+      → account ks (rowFor (Building.command ids cmd)) ≡ lockShown ks ∷ commandShown ids cmd ∷ []
+  unfolding rowFor frameOf headed from-header phases
+  command-shown ids cmd h l =
+      let v : ℕ = commandWord ids cmd in
+      rw (header-command ids cmd h l, append-nil)
+      at (frame-head-shown ks v [] (omega arith) bs (rw append-nil (header-calm v (omega arith))))

@@ -1,0 +1,142 @@
+-- An entry's layout as data: its fields in their order, each with its width. An entry's bytes, the entry that bytes are, a list cut into
+-- entries and refusal 12 come from it, and from its order the printed list (specs/Text).
+use mathlib.Core.Bool.{Bool, true, false, _&&_}
+use mathlib.Core.List.{List, [], _∷_, _++_, map}
+use mathlib.Core.Option.{Option, none, some}
+use Prim.Native.Nat.{ℕ, _+_}
+use Prim.Native.String.{String}
+use lib.ListN.{take}
+use Rattle.protocol.specs.Entries.{Kind, table, number, kinds, numbered, Entry}
+use Rattle.protocol.specs.Pieces.{inBytes, numberAt, pieces, isWhole, joined}
+
+-- Entries: "kind, column (two bytes, high first), id, address, value".
+pub data Field : Type 0 where
+  kind column id address value : Field
+
+-- The fields that are printed as numbers, in their order ..
+abbrev pub numbers : List Field
+numbers = Field.column ∷ Field.id ∷ Field.address ∷ Field.value ∷ []
+
+-- .. behind the kind.
+abbrev pub fields : List Field
+fields = Field.kind ∷ numbers
+
+-- A field's place among them.
+abbrev pub order : Field → ℕ
+order Field.kind = 0
+order Field.column = 1
+order Field.id = 2
+order Field.address = 3
+order Field.value = 4
+
+-- A list is of one layout, which says how wide its fields are; every list made has the layout `current`.
+pub data Layout : Type 0 where
+  narrow : Layout
+
+abbrev pub current : Layout
+current = narrow
+
+-- "Six bytes": a column's two, and one of each other field.
+abbrev pub width : Layout → Field → ℕ
+width narrow Field.kind = 1
+width narrow Field.column = 2
+width narrow Field.id = 1
+width narrow Field.address = 1
+width narrow Field.value = 1
+
+-- What an entry has in a field.
+abbrev pub valueOf : Entry → Field → ℕ
+valueOf e Field.kind = number (e .event .kind)
+valueOf e Field.column = e .place .column
+valueOf e Field.id = e .event .id
+valueOf e Field.address = e .event .address
+valueOf e Field.value = e .event .value
+
+-- Whether an entry names a field: its column always, the others as the table says of its kind.
+abbrev pub named : Entry → Field → Bool
+named e Field.kind = true
+named e Field.column = true
+named e Field.id = table (e .event .kind) .has-id
+named e Field.address = table (e .event .kind) .has-address
+named e Field.value = table (e .event .kind) .has-value
+
+-- Text: a field's name in the header, "`event` TAB `column` TAB `id` TAB `address` TAB `value`".
+abbrev pub heading : Field → String
+heading Field.kind = "event"
+heading Field.column = "column"
+heading Field.id = "id"
+heading Field.address = "address"
+heading Field.value = "value"
+
+-- The entry of a kind, if its number is one, by what stands in the other fields.
+abbrev pub entryBy : Option Kind → (Field → ℕ) → Option Entry
+entryBy none v = none
+entryBy (some k) v =
+    some (record {
+      place = record { column = v Field.column };
+      event = record { kind = k; id = v Field.id; address = v Field.address; value = v Field.value };
+    })
+
+-- Below here nothing knows which fields there are.
+
+-- So many bytes have these fields ..
+abbrev pub widths : Layout → List Field → ℕ
+widths l [] = 0
+widths l (f ∷ fs) = width l f + widths l fs
+
+-- .. and so many an entry ..
+abbrev pub entryBytes : Layout → ℕ
+entryBytes l = widths l fields
+
+-- .. of which so many stand before a field.
+abbrev pub offset : Layout → Field → ℕ
+offset l f = widths l (take (order f) fields)
+
+-- The bytes of fields, by what stands in each.
+unfoldable pub fieldBytes : Layout → List Field → (Field → ℕ) → List ℕ
+fieldBytes l [] v = []
+fieldBytes l (f ∷ fs) v = inBytes (width l f) (v f) ++ fieldBytes l fs v
+
+-- An entry's bytes ..
+unfoldable pub bytesOf : Layout → Entry → List ℕ
+bytesOf l e = fieldBytes l fields (valueOf e)
+
+-- .. and a list's, entry after entry.
+unfoldable pub listBytes : Layout → List Entry → List ℕ
+listBytes l es = joined (map (bytesOf l) es)
+
+-- What stands in a field of the entry at place i of a list's bytes ..
+abbrev pub fieldAt : Layout → (list : List ℕ) → (i : ℕ) → Field → ℕ
+fieldAt l list i f = numberAt (width l f) (i + offset l f) list
+
+-- .. and that entry; none for a kind outside the table.
+abbrev pub entryAt : Layout → (list : List ℕ) → (i : ℕ) → Option Entry
+entryAt l list i = entryBy (numbered (fieldAt l list i Field.kind) kinds) (fieldAt l list i)
+
+-- An entry, if it is one, before others.
+abbrev pub andMore : Option Entry → List Entry → List Entry
+andMore none es = es
+andMore (some e) es = e ∷ es
+
+-- The entries that pieces are ..
+unfoldable pub entriesOf : Layout → List (List ℕ) → List Entry
+entriesOf l [] = []
+entriesOf l (p ∷ ps) = andMore (entryAt l p 0) (entriesOf l ps)
+
+-- .. and a list's bytes.
+unfoldable pub entriesIn : Layout → (list : List ℕ) → List Entry
+entriesIn l list = entriesOf l (pieces (entryBytes l) list)
+
+-- Some entry.
+abbrev pub isEntry : Option Entry → Bool
+isEntry none = false
+isEntry (some e) = true
+
+-- Every piece is an entry.
+unfoldable pub allEntries : Layout → List (List ℕ) → Bool
+allEntries l [] = true
+allEntries l (p ∷ ps) = isEntry (entryAt l p 0) && allEntries l ps
+
+-- Refusal 12: "list length no multiple of 6, or a kind outside 1 to 16".
+unfoldable pub isList : Layout → (list : List ℕ) → Bool
+isList l list = isWhole (entryBytes l) list && allEntries l (pieces (entryBytes l) list)
