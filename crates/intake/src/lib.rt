@@ -5,21 +5,20 @@ mod words;
 ghost use Prim.Native.Nat.{_+_, _≤_, _^_};
 ghost use mathlib.Core.Path.{_≡_};
 ghost use lib.ListN.{length};
+ghost use Rattle.report.specs.Report.{reportRoom};
 ghost use Rattle.io.specs.Counts.{Counts};
 ghost use Rattle.intake.specs.Counted.{Printable};
 use argument::Asked;
 use job::Outcome;
 use libc::STDIN_FILENO;
 use libc::STDOUT_FILENO;
+use report::REPORT_ROOM;
 
 // The longest text of admitted rows is a header of 8 bytes and 4,096 lines of 4; a piece has room for a line more.
 const PIECE: usize = 16396;
 
 // Nothing says that an input ends, so its pieces are counted down from a number that no input reaches.
 const PIECES: usize = 1099511627776;
-
-// More than any report: a header, and for each of 4,096 columns a line of at most 27 bytes.
-const REPORT: usize = 131072;
 
 // What came of reading: so many bytes, fewer than were asked for only at the end of the input or where a read failed.
 struct Filled {
@@ -207,8 +206,8 @@ fn piece_room() -> [u8; PIECE]
     [0; PIECE]
 }
 
-fn report_room() -> [u8; REPORT]
-    ensures { λ r. ⌜ 131072 ≡ length r ⌝ }
+fn report_room() -> [u8; REPORT_ROOM]
+    ensures { λ r. ⌜ reportRoom ≡ length r ⌝ }
 {
-    [0; REPORT]
+    [0; REPORT_ROOM]
 }

@@ -17,8 +17,11 @@ field-short true d n h = omega (arith, decimal-short d n h)
 field-short false d n h = omega arith
 
 -- The name, five digits of the column, three of each other field, their TABs and the line feed.
+abbrev pub lineLimit : ℕ
+lineLimit = 27
+
 pub line-short : (e : Entry) → e .place .column < 10 ^ 5 → e .event .id < 10 ^ 3 → e .event .address < 10 ^ 3 → e .event .value < 10 ^ 3
-    → length (entryLine e) ≤ 27
+    → length (entryLine e) ≤ lineLimit
 line-short e c i a v =
     omega (
       arith,

@@ -1,6 +1,6 @@
 -- Worked rows: the bench card's run and the small cases below it, and every kind on the smallest damage that shows it, each expected list
 -- worked out from paper 01 by hand. They hold what no law reaches: the kinds of breaches, the four rights, fourteen zeros and 64 bytes. And
--- the table of kinds, each with its six bytes and its line of text, and what is no list. One theorem over each list, by computation.
+-- the table of kinds, each with its bytes and its line of text, and what is no list. One theorem over each list, by computation.
 -- Assumes nothing.
 --
 -- The rows are a built request's, with bits flipped in the master row or in the chain's answers to it:
@@ -19,10 +19,11 @@ use Rattle.protocol.specs.Division.{divideBit, divide, remainder, check,
 use Rattle.protocol.specs.Header.{header}
 use Rattle.protocol.specs.Memory.{Memory, allows, holds, stored}
 use Rattle.protocol.specs.Building.{read, write, command, readBytes, writeBytes, frameOf, rowFor}
-use Rattle.protocol.specs.Entries.{Kind, event, opened, Entry, bytes, numbered}
+use Rattle.protocol.specs.Entries.{Kind, event, Entry, bytes, numbered}
 use Rattle.protocol.specs.Pieces.{inBytes, numberAt, cut, pieces, isWhole}
 use Rattle.protocol.specs.Layout.{current, fieldBytes, bytesOf, entriesOf, entriesIn, allEntries, isList}
 use Rattle.protocol.specs.Text.{digitsIn, decimal, field, cells, entryLine, entryLines}
+use Rattle.protocol.specs.Understood.{inFrame}
 use Rattle.protocol.specs.Slave
 use Rattle.protocol.specs.Chain
 use Rattle.protocol.specs.Reader
@@ -62,7 +63,7 @@ writing = rowFor (write 0 0x44 (0x5B ∷ []))
 
 -- An entry: its kind, column, id, address and value.
 unfoldable pub entry : Kind → (column id address value : ℕ) → Entry
-entry kind column id address value = record { place = opened column; event = event kind id address value }
+entry kind column id address value = inFrame column (event kind id address value)
 
 locked : Entry
 locked = entry Kind.lock 23 0 0 1
@@ -126,51 +127,55 @@ pub samples-hold : map listed samples ≡ map (λ s. s .shows) samples
 unfolding samples sample entry listed flips flip reading writing locked ended holding one columnsOf rowFor frameOf readBytes writeBytes word check remainder divide divideBit bit bits push fits byteOf header allows holds stored judge timer Slave.lock Slave.called Slave.more Slave.speak Slave.step Chain.pass Chain.answers Chain.switchedOn Chain.answersFrom Reader.seen Reader.locked Reader.headed Reader.asked Reader.look Reader.step Reader.columns Reader.entries Reader.listFrom
 samples-hold = refl
 
--- A kind, and what is expected of its entry in column 300 with id 5, address 68 and value 90: its six bytes, and its line.
+-- A kind, and what is expected of its entry in column 300 with id 5, address 68 and value 90: its bytes, and its line.
 pub record KindLine : Type 0 where
   pub kind : Kind
-  pub six : List ℕ
-  pub line : String
+  pub laid : List ℕ
+  pub line : List ℕ
 
--- the kind, its number, the fields id, address and value, the line
-kindLine : Kind → (number id address value : ℕ) → String → KindLine
-kindLine kind number id address value line =
-    record { kind = kind; six = number ∷ 1 ∷ 44 ∷ id ∷ address ∷ value ∷ []; line = line }
+-- the kind, its number, the fields id, address and value; its name, and how the three are printed
+kindLine : Kind → (number id address value : ℕ) → (name fields : String) → KindLine
+kindLine kind number id address value name fields =
+    record {
+      kind = kind;
+      laid = number ∷ 1 ∷ 44 ∷ id ∷ address ∷ value ∷ [];
+      line = bytes name ++ bytes "\t300\t" ++ bytes fields;
+    }
 
 pub kindLines : List KindLine
 kindLines =
-    kindLine Kind.lock 1 0 0 90 "lock\t300\t-\t-\t90\n"
-    ∷ kindLine Kind.lockodd 2 0 0 0 "lockodd\t300\t-\t-\t-\n"
-    ∷ kindLine Kind.badhead 3 0 0 0 "badhead\t300\t-\t-\t-\n"
-    ∷ kindLine Kind.command 4 5 0 90 "command\t300\t5\t-\t90\n"
-    ∷ kindLine Kind.pair 5 5 68 0 "pair\t300\t5\t68\t-\n"
-    ∷ kindLine Kind.absent 6 5 68 0 "absent\t300\t5\t68\t-\n"
-    ∷ kindLine Kind.refused 7 5 68 90 "refused\t300\t5\t68\t90\n"
-    ∷ kindLine Kind.odd 8 5 68 90 "odd\t300\t5\t68\t90\n"
-    ∷ kindLine Kind.mute 9 5 68 0 "mute\t300\t5\t68\t-\n"
-    ∷ kindLine Kind.read 10 5 68 90 "read\t300\t5\t68\t90\n"
-    ∷ kindLine Kind.written 11 5 68 90 "written\t300\t5\t68\t90\n"
-    ∷ kindLine Kind.readbad 12 5 68 90 "readbad\t300\t5\t68\t90\n"
-    ∷ kindLine Kind.writebad 13 5 68 90 "writebad\t300\t5\t68\t90\n"
-    ∷ kindLine Kind.echo 14 5 68 90 "echo\t300\t5\t68\t90\n"
-    ∷ kindLine Kind.end 15 0 0 0 "end\t300\t-\t-\t-\n"
-    ∷ kindLine Kind.closed 16 5 68 0 "closed\t300\t5\t68\t-\n"
+    kindLine Kind.lock 1 0 0 90 "lock" "-\t-\t90\n"
+    ∷ kindLine Kind.lockodd 2 0 0 0 "lockodd" "-\t-\t-\n"
+    ∷ kindLine Kind.badhead 3 0 0 0 "badhead" "-\t-\t-\n"
+    ∷ kindLine Kind.command 4 5 0 90 "command" "5\t-\t90\n"
+    ∷ kindLine Kind.pair 5 5 68 0 "pair" "5\t68\t-\n"
+    ∷ kindLine Kind.absent 6 5 68 0 "absent" "5\t68\t-\n"
+    ∷ kindLine Kind.refused 7 5 68 90 "refused" "5\t68\t90\n"
+    ∷ kindLine Kind.odd 8 5 68 90 "odd" "5\t68\t90\n"
+    ∷ kindLine Kind.mute 9 5 68 0 "mute" "5\t68\t-\n"
+    ∷ kindLine Kind.read 10 5 68 90 "read" "5\t68\t90\n"
+    ∷ kindLine Kind.written 11 5 68 90 "written" "5\t68\t90\n"
+    ∷ kindLine Kind.readbad 12 5 68 90 "readbad" "5\t68\t90\n"
+    ∷ kindLine Kind.writebad 13 5 68 90 "writebad" "5\t68\t90\n"
+    ∷ kindLine Kind.echo 14 5 68 90 "echo" "5\t68\t90\n"
+    ∷ kindLine Kind.end 15 0 0 0 "end" "-\t-\t-\n"
+    ∷ kindLine Kind.closed 16 5 68 0 "closed" "5\t68\t-\n"
     ∷ []
 
-pub kinds-hold : map (λ s. bytesOf current (entry (s .kind) 300 5 68 90)) kindLines ≡ map (λ s. s .six) kindLines
+pub kinds-hold : map (λ s. bytesOf current (entry (s .kind) 300 5 68 90)) kindLines ≡ map (λ s. s .laid) kindLines
 unfolding kindLines kindLine entry bytesOf fieldBytes inBytes
 kinds-hold = refl
 
-pub kinds-print : map (λ s. entryLines (entriesIn current (s .six))) kindLines ≡ map (λ s. bytes (s .line)) kindLines
+pub kinds-print : map (λ s. entryLines (entriesIn current (s .laid))) kindLines ≡ map (λ s. s .line) kindLines
 unfolding kindLines kindLine numbered pieces cut numberAt entriesIn entriesOf digitsIn decimal field cells entryLine entryLines
 kinds-print = refl
 
 -- Refusal 12: lengths 0 to 12, of kind 1 throughout; kinds 0, 1, 16 and 17.
 lengths-hold : tabulate (λ n. isList current (replicate n 1)) 0 13
-    ≡ true ∷ false ∷ false ∷ false ∷ false ∷ false ∷ true ∷ false ∷ false ∷ false ∷ false ∷ false ∷ true ∷ []
+    ≡ true ∷ replicate 5 false ++ true ∷ replicate 5 false ++ true ∷ []
 unfolding isList isWhole allEntries pieces cut numberAt numbered
 lengths-hold = refl
 
-numbers-hold : map (λ k. isList current (k ∷ 0 ∷ 0 ∷ 0 ∷ 0 ∷ 0 ∷ [])) (0 ∷ 1 ∷ 16 ∷ 17 ∷ []) ≡ false ∷ true ∷ true ∷ false ∷ []
+numbers-hold : map (λ k. isList current (k ∷ replicate 5 0)) (0 ∷ 1 ∷ 16 ∷ 17 ∷ []) ≡ false ∷ true ∷ true ∷ false ∷ []
 unfolding isList isWhole allEntries pieces cut numberAt numbered
 numbers-hold = refl

@@ -153,7 +153,7 @@ behind k row = take (length row - k) (drop k row)
 behind-is : (k : ℕ) (row : List ℕ) → behind k row ≡ drop k row
 behind-is k row = take-all (length row - k) (drop k row) (omega (arith, length-drop k row))
 
-pub from-opening : (cdm cds : List ℕ) (k : ℕ) (s : Timed Phase) (p : Place) (out : List ℕ) (r : Reached) → s ≡ powerOn → p .column ≡ k
+pub from-opening : (cdm cds : List ℕ) (k : ℕ) (s : Timed Phase) (p : Place) (out : List ℕ) (r : Reached) → s ≡ powerOn → placeOf p ≡ opened k
     → r ≡ reached s (placeOf p) 0 out (columns (rowOf (behind k cdm)) (rowOf (behind k cds)))
     → (r .count ≡ length (listOf k cdm cds)) × (r .buffer ≡ keptAll out 0 (listOf k cdm cds))
 unfolding reached listOf listFrom

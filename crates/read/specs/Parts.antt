@@ -26,6 +26,10 @@ pub record Rows (cdm cds : List ℕ) (k : ℕ) : Type 0 where
 abbrev pub placeOf : Place → protocol.Place
 placeOf p = record { column = p .column }
 
+-- It lies within a row, or just behind one.
+abbrev pub inRow : Place → Type 0
+inRow p = p .column ≤ columnLimit
+
 -- What the code has in each field ..
 abbrev pub valueFor : Place → Event → Field → ℕ
 valueFor p e Field.kind = e .kind

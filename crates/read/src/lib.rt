@@ -13,7 +13,7 @@ ghost use Rattle.protocol.specs.Entries.{onward};
 ghost use Rattle.job.specs.Refusals.{first, given};
 ghost use Rattle.reader.specs.Code.{stateOf, small};
 ghost use Rattle.read.specs.Read.{rowsRefusals, listOf, Listed};
-ghost use Rattle.read.specs.Parts.{Rows, placeOf, bytesFor, roomOf, kept, keptAll, reached, standing};
+ghost use Rattle.read.specs.Parts.{Rows, placeOf, inRow, bytesFor, roomOf, kept, keptAll, reached, standing};
 use job::Detail;
 use job::ENTRY_BYTES;
 use job::Outcome;
@@ -125,7 +125,7 @@ pub fn scan_on(start: Reading, cdm: &[u8], cds: &[u8], out: &mut [u8]) -> Readin
 
 // The place one column on.
 fn onward(reader: Reader, m: bool, place: Place) -> Place
-    requires { ⌜ place .column ≤ columnLimit ⌝ }
+    requires { ⌜ inRow place ⌝ }
     ensures { λ r. ⌜ placeOf r ≡ onward (stateOf reader) m (placeOf place) ⌝ }
 {
     Place {
@@ -135,7 +135,7 @@ fn onward(reader: Reader, m: bool, place: Place) -> Place
 
 // The entry after n others, where there is room for it; returns how many there are now.
 fn keep(out: &mut [u8], n: usize, place: Place, e: Event) -> usize
-    requires { ⌜ (n ≤ columnLimit) × (place .column ≤ columnLimit) × small e ⌝ }
+    requires { ⌜ (n ≤ columnLimit) × inRow place × small e ⌝ }
     ensures { λ r. ⌜ (r ≡ n + 1) × (now (out .exit) ≡ kept (now (out .entry)) n (bytesFor place e)) ⌝ }
 {
     let next = n + 1;
@@ -146,7 +146,7 @@ fn keep(out: &mut [u8], n: usize, place: Place, e: Event) -> usize
 }
 
 fn put(out: &mut [u8], at: usize, place: Place, e: Event)
-    requires { ⌜ (at + entryBytes current ≤ length (now out)) × (place .column ≤ columnLimit) × small e ⌝ }
+    requires { ⌜ (at + entryBytes current ≤ length (now out)) × inRow place × small e ⌝ }
     ensures { λ r. ⌜ now (out .exit) ≡ sets (now (out .entry)) at (bytesFor place e) ⌝ }
 {
     let bytes = entry_bytes(place, e);
@@ -155,7 +155,7 @@ fn put(out: &mut [u8], at: usize, place: Place, e: Event)
 
 // Entries: "Six bytes: kind, column (two bytes, high first), id, address, value."
 fn entry_bytes(place: Place, e: Event) -> [u8; ENTRY_BYTES]
-    requires { ⌜ (place .column ≤ columnLimit) × small e ⌝ }
+    requires { ⌜ inRow place × small e ⌝ }
     ensures { λ r. ⌜ r ≡ bytesFor place e ⌝ }
 {
     let k = place.column;

@@ -193,7 +193,7 @@ fn recorded(what: &[u8], row: [u8; 64], right: u8, sent: usize, answered: usize)
     let mut cds = [0u8; 64];
     run::run(1, &rights, &mut registers, &cdm, &mut cds);
     flip(&mut cds, answered);
-    let mut list = [0u8; 384];
+    let mut list = [0u8; ENTRY_BYTES * 64];
     match read::read(&cdm, &cds, 0, &mut list) {
         Outcome::Made(entries) => listed(&list, entries),
         Outcome::Refused(number, _) => refused(number),

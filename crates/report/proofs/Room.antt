@@ -20,19 +20,15 @@ use Rattle.job.proofs.Refusals.{ended-none}
 use Rattle.read.specs.Read.{listOf}
 use Rattle.read.proofs.Left.{length-listed}
 use Rattle.read.proofs.Bytes.{Small, small-list}
-use Rattle.list_text.proofs.Short.{line-short}
+use Rattle.list_text.proofs.Short.{lineLimit, line-short}
 use Rattle.list_text.proofs.Lists.{text-length}
-use Rattle.report.specs.Report.{fields, refusedText, rowsReport, reportText, longReport, Whole, Reported}
+use Rattle.report.specs.Report.{reportRoom, fields, refusedText, rowsReport, reportText, longReport, Whole, Reported}
 use Rattle.report.proofs.Lines.{twenty}
 use Rattle.report.proofs.Rows.{reports-late, reports-shown, reports-bad, reports-long, reports-rows}
 
--- Intake's buffer for a report.
-abbrev pub reportRoom : ℕ
-reportRoom = 131072
-
 -- The lines of entries whose fields are bytes.
 lines-short : (limit : ℕ) (es : List Entry) → limit ≤ columnLimit → Every (Small limit) es
-    → length (entryLines es) ≤ 27 * length es
+    → length (entryLines es) ≤ lineLimit * length es
 unfolding entryLines
 lines-short limit [] l h = omega arith
 lines-short limit (e ∷ es) l h =

@@ -14,6 +14,10 @@ use Rattle.print.specs.Printed.{Printed}
 use Rattle.read.specs.Read.{listOf}
 use Rattle.rows_text.specs.RowsText.{badForm}
 
+-- Room for any report.
+abbrev pub reportRoom : ℕ
+reportRoom = 131072
+
 -- Numbers in decimal, each behind its TAB.
 unfoldable pub fields : (numbers : List ℕ) → List ℕ
 fields [] = []

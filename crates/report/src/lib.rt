@@ -15,6 +15,9 @@ use job::Detail;
 use job::ENTRY_BYTES;
 use job::Outcome;
 
+// Room for any report: a header, and for each of 4,096 columns a line of at most 27 bytes.
+pub const REPORT_ROOM: usize = 131072;
+
 // "At most one entry falls in a column".
 const LIST_LIMIT: usize = ENTRY_BYTES * COLUMN_LIMIT;
 

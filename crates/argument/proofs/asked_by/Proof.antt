@@ -5,9 +5,6 @@ use Rattle.argument.proofs.Digits.{asks-help, asks-nothing, asks-number
 use Rattle.argument.proofs.asked_by.Statement.{statement}
 use Rattle.argument.proofs.asked_by.Tie as tie
 
-is-help-requires : tie.Need-is-help-requires
-is-help-requires c κs = search needs
-
 returns : tie.Need-returns
 returns c = asks-help _ (sym (c .before .is-help .ensures) ∙ c .if1 .taken)
 
@@ -16,13 +13,10 @@ returns-2 c =
     let other = c .before in
     asks-nothing _ (sym (other .before .is-help .ensures) ∙ other .if1 .left) (c .if2 .taken)
 
-number-requires : tie.Need-number-requires
-number-requires c κs = search needs
-
 returns-3 : tie.Need-returns-3
 returns-3 c =
     let other = c .before .before in
     c .number .ensures ∙ asks-number _ (sym (other .before .is-help .ensures) ∙ other .if1 .left) (c .before .if2 .left)
 
 pub asked-by-spec : {M : Type 1} → statement M
-asked-by-spec = tie.close (tie.spec is-help-requires returns returns-2 number-requires returns-3)
+asked-by-spec = tie.close (tie.spec (λ c κs. search needs) returns returns-2 (λ c κs. search needs) returns-3)

@@ -4,12 +4,6 @@ use borrow.Author.Needs.{needs}
 use Rattle.argument.proofs.is_help.Statement.{statement}
 use Rattle.argument.proofs.is_help.Tie as tie
 
-slice-aggregate-begins-with : tie.Need-slice-aggregate-begins-with
-slice-aggregate-begins-with c = search needs
-
-begins-with-requires : tie.Need-begins-with-requires
-begins-with-requires c κs = search needs
-
 returns : tie.Need-returns
 returns c =
     rw (eq-eqb _ _ (c .before .before .if1 .taken)) (c .begins-with .ensures)
@@ -19,4 +13,4 @@ returns-2 c = rw (ne-eqb _ _ (c .if1 .left))
 
 pub is-help-spec : {M : Type 1} → statement M
 is-help-spec =
-    tie.close (tie.spec slice-aggregate-begins-with begins-with-requires returns returns-2)
+    tie.close (tie.spec (λ c. search needs) (λ c κs. search needs) returns returns-2)

@@ -16,28 +16,10 @@ Inv-loop argument n₀ i₀ n i = (i ≤ length argument) × (n ≤ farthest) ×
 abbrev μ-loop : tie.MeasureT-loop
 μ-loop argument n₀ i₀ n i = length argument - i
 
-loop-holds : tie.Need-loop-holds Inv-loop μ-loop
-loop-holds c = search needs
-
-shared-slice-read-is-digit : tie.Need-shared-slice-read-is-digit Inv-loop μ-loop
-shared-slice-read-is-digit c = search needs
-
-is-digit-requires : tie.Need-is-digit-requires Inv-loop μ-loop
-is-digit-requires c κs = search needs
-
-shared-slice-read-behind : tie.Need-shared-slice-read-behind Inv-loop μ-loop
-shared-slice-read-behind c = search needs
-
 behind-requires : tie.Need-behind-requires Inv-loop μ-loop
 behind-requires c κs =
     let digit = c .before in
     (digit .before .before .before .before .loop .inv .1, sym (digit .before .is-digit .ensures) ∙ digit .if1 .taken)
-
-add-i : tie.Need-add-i Inv-loop μ-loop
-add-i c = search needs
-
-loop-less : tie.Need-loop-less Inv-loop μ-loop
-loop-less c = search needs
 
 loop-again : tie.Need-loop-again Inv-loop μ-loop
 loop-again c =
@@ -64,13 +46,13 @@ number-spec =
     (tie.spec
     Inv-loop
     μ-loop
-    loop-holds
-    shared-slice-read-is-digit
-    is-digit-requires
-    shared-slice-read-behind
+    (λ c. search needs)
+    (λ c. search needs)
+    (λ c κs. search needs)
+    (λ c. search needs)
     behind-requires
-    add-i
-    loop-less
+    (λ c. search needs)
+    (λ c. search needs)
     loop-again
     returns
     returns-2)

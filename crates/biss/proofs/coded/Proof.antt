@@ -4,15 +4,6 @@ use Rattle.biss.specs.Coded.{code}
 use Rattle.biss.proofs.coded.Statement.{statement}
 use Rattle.biss.proofs.coded.Tie as tie
 
-enum-known-outcome : tie.Need-enum-known-outcome
-enum-known-outcome c = search needs
-
-enum-known-outcome-2 : tie.Need-enum-known-outcome-2
-enum-known-outcome-2 c = search needs
-
-coded-refusal-requires : tie.Need-coded-refusal-requires
-coded-refusal-requires c κs = search needs
-
 returns : tie.Need-returns
 unfolding code
 returns c = rw (c .before .outcome .given .1)
@@ -23,4 +14,4 @@ returns-2 c = rw (c .before .before .outcome2 .given .1) (c .coded-refusal .ensu
 pub coded-spec : {M : Type 1} → statement M
 coded-spec =
     tie.close
-    (tie.spec enum-known-outcome enum-known-outcome-2 coded-refusal-requires returns returns-2)
+    (tie.spec (λ c. search needs) (λ c. search needs) (λ c κs. search needs) returns returns-2)

@@ -6,18 +6,12 @@ use Rattle.build.proofs.Ends.{access-inside, access-fits}
 use Rattle.build.proofs.begin.Statement.{statement}
 use Rattle.build.proofs.begin.Tie as tie
 
-refusal-requires : tie.Need-refusal-requires
-refusal-requires c κs = search needs
-
 put-access-requires : tie.Need-put-access-requires
 put-access-requires c κs =
     let e = gave-none _ (c .before .before .refusal .ensures) (c .before .if1 .taken) in
     let within = access-inside _ _ _ _ e in
     let room = access-fits _ _ _ _ e in
     search needs
-
-same-length : tie.Need-same-length
-same-length c = search needs
 
 returns : tie.Need-returns
 returns c =
@@ -33,4 +27,4 @@ returns-2 c =
 
 pub begin-spec : {M : Type 1} → statement M
 begin-spec =
-    tie.close (tie.spec refusal-requires put-access-requires same-length returns returns-2)
+    tie.close (tie.spec (λ c κs. search needs) put-access-requires (λ c. search needs) returns returns-2)

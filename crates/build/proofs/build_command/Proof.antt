@@ -17,21 +17,6 @@ returns c = built-refused _ _ 10 (command-ten _ _ _ (c .if1 .taken)) (λ e. omeg
 returns-2 : tie.Need-returns-2
 returns-2 c = built-refused _ _ 9 (command-nine _ _ _ (c .before .if1 .left) (c .if2 .taken)) (λ e. omega arith)
 
-mul-frame-head : tie.Need-mul-frame-head
-mul-frame-head c = search needs
-
-add-frame-head : tie.Need-add-frame-head
-add-frame-head c = search needs
-
-frame-head-requires : tie.Need-frame-head-requires
-frame-head-requires c κs = search needs
-
-put-bits-requires : tie.Need-put-bits-requires
-put-bits-requires c κs = search needs
-
-same-length : tie.Need-same-length
-same-length c = search needs
-
 returns-3 : tie.Need-returns-3
 returns-3 c =
     let put = c .before .before .put-bits in
@@ -57,9 +42,9 @@ build-command-spec =
     (tie.spec
     returns
     returns-2
-    mul-frame-head
-    add-frame-head
-    frame-head-requires
-    put-bits-requires
-    same-length
+    (λ c. search needs)
+    (λ c. search needs)
+    (λ c κs. search needs)
+    (λ c κs. search needs)
+    (λ c. search needs)
     returns-3)

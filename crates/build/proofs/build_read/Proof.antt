@@ -4,21 +4,12 @@ use Rattle.build.proofs.Ends.{reading, access-refused, access-room, acc
 use Rattle.build.proofs.build_read.Statement.{statement}
 use Rattle.build.proofs.build_read.Tie as tie
 
-begin-requires : tie.Need-begin-requires
-begin-requires c κs = search needs
-
-same-length : tie.Need-same-length
-same-length c = search needs
-
 returns : tie.Need-returns
 returns c = access-refused (reading _ _ _) (c .before .before .before .begin .ensures) (c .if1 .taken)
 
 put-reads-requires : tie.Need-put-reads-requires
 put-reads-requires c κs =
     access-room (reading _ _ _) (c .before .before .before .before .begin .ensures) (c .before .if1 .left)
-
-same-length-2 : tie.Need-same-length-2
-same-length-2 c = search needs
 
 returns-2 : tie.Need-returns-2
 returns-2 c =
@@ -28,4 +19,4 @@ returns-2 c =
 pub build-read-spec : {M : Type 1} → statement M
 build-read-spec =
     tie.close
-    (tie.spec begin-requires same-length returns put-reads-requires same-length-2 returns-2)
+    (tie.spec (λ c κs. search needs) (λ c. search needs) returns put-reads-requires (λ c. search needs) returns-2)

@@ -4,12 +4,6 @@ use Rattle.build.proofs.Ends.{writing, access-refused, access-room, acc
 use Rattle.build.proofs.build_write.Statement.{statement}
 use Rattle.build.proofs.build_write.Tie as tie
 
-begin-requires : tie.Need-begin-requires
-begin-requires c κs = search needs
-
-same-length : tie.Need-same-length
-same-length c = search needs
-
 returns : tie.Need-returns
 returns c = access-refused (writing _ _ _) (c .before .before .before .begin .ensures) (c .if1 .taken)
 
@@ -19,9 +13,6 @@ put-writes-requires c κs =
     let bytes = begun .before .before .before .before .args .bytes .now in
     access-room (writing _ _ bytes) (begun .begin .ensures) (c .before .if1 .left)
 
-same-length-2 : tie.Need-same-length-2
-same-length-2 c = search needs
-
 returns-2 : tie.Need-returns-2
 returns-2 c =
     let begun = c .before .before .before .before in
@@ -30,4 +21,4 @@ returns-2 c =
 pub build-write-spec : {M : Type 1} → statement M
 build-write-spec =
     tie.close
-    (tie.spec begin-requires same-length returns put-writes-requires same-length-2 returns-2)
+    (tie.spec (λ c κs. search needs) (λ c. search needs) returns put-writes-requires (λ c. search needs) returns-2)

@@ -21,12 +21,9 @@ returns-4 : tie.Need-returns-4
 unfolding outsideAccess
 returns-4 c = search cases
 
-add-end : tie.Need-add-end
-add-end c = search needs
-
 returns-5 : tie.Need-returns-5
 unfolding outsideAccess
 returns-5 c = search cases
 
 pub outside-spec : {M : Type 1} → statement M
-outside-spec = tie.close (tie.spec returns returns-2 returns-3 returns-4 add-end returns-5)
+outside-spec = tie.close (tie.spec returns returns-2 returns-3 returns-4 (λ c. search needs) returns-5)

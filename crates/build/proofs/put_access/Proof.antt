@@ -10,30 +10,6 @@ use Rattle.protocol.specs.Bits.{num, bits}
 use Rattle.build.proofs.put_access.Statement.{statement}
 use Rattle.build.proofs.put_access.Tie as tie
 
-mul-frame-head : tie.Need-mul-frame-head
-mul-frame-head c = search needs
-
-add-frame-head : tie.Need-add-frame-head
-add-frame-head c = search needs
-
-add-frame-head-2 : tie.Need-add-frame-head-2
-add-frame-head-2 c = search needs
-
-frame-head-requires : tie.Need-frame-head-requires
-frame-head-requires c κs = search needs
-
-mul-put-bits : tie.Need-mul-put-bits
-mul-put-bits c = search needs
-
-add-put-bits : tie.Need-add-put-bits
-add-put-bits c = search needs
-
-put-bits-requires : tie.Need-put-bits-requires
-put-bits-requires c κs = search needs
-
-same-length : tie.Need-same-length
-same-length c = search needs
-
 returns : tie.Need-returns
 returns c =
     let put = c .before .before .put-bits in
@@ -49,12 +25,12 @@ pub put-access-spec : {M : Type 1} → statement M
 put-access-spec =
     tie.close
     (tie.spec
-    mul-frame-head
-    add-frame-head
-    add-frame-head-2
-    frame-head-requires
-    mul-put-bits
-    add-put-bits
-    put-bits-requires
-    same-length
+    (λ c. search needs)
+    (λ c. search needs)
+    (λ c. search needs)
+    (λ c κs. search needs)
+    (λ c. search needs)
+    (λ c. search needs)
+    (λ c κs. search needs)
+    (λ c. search needs)
     returns)

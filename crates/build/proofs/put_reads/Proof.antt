@@ -21,18 +21,6 @@ Inv-loop out₀ at count p₀ left₀ out p left =
 abbrev μ-loop : tie.MeasureT-loop
 μ-loop out₀ at count p₀ left₀ out p left = left
 
-loop-holds : tie.Need-loop-holds Inv-loop μ-loop
-loop-holds c = search needs
-
-put-bits-requires : tie.Need-put-bits-requires Inv-loop μ-loop
-put-bits-requires c κs = search needs
-
-sub-left : tie.Need-sub-left Inv-loop μ-loop
-sub-left c = search needs
-
-loop-less : tie.Need-loop-less Inv-loop μ-loop
-loop-less c = search needs
-
 loop-again : tie.Need-loop-again Inv-loop μ-loop
 loop-again c =
     let put = c .before .before .put-bits in
@@ -56,10 +44,10 @@ put-reads-spec =
     (tie.spec
     Inv-loop
     μ-loop
-    loop-holds
-    put-bits-requires
-    sub-left
-    loop-less
+    (λ c. search needs)
+    (λ c κs. search needs)
+    (λ c. search needs)
+    (λ c. search needs)
     loop-again
     same-length
     returns)

@@ -22,24 +22,6 @@ Inv-loop out₀ at bytes p₀ i₀ out p i =
 abbrev μ-loop : tie.MeasureT-loop
 μ-loop out₀ at bytes p₀ i₀ out p i = length bytes - i
 
-loop-holds : tie.Need-loop-holds Inv-loop μ-loop
-loop-holds c = search needs
-
-shared-slice-read-written : tie.Need-shared-slice-read-written Inv-loop μ-loop
-shared-slice-read-written c = search needs
-
-written-requires : tie.Need-written-requires Inv-loop μ-loop
-written-requires c κs = search needs
-
-put-bits-requires : tie.Need-put-bits-requires Inv-loop μ-loop
-put-bits-requires c κs = search needs
-
-add-i : tie.Need-add-i Inv-loop μ-loop
-add-i c = search needs
-
-loop-less : tie.Need-loop-less Inv-loop μ-loop
-loop-less c = search needs
-
 loop-again : tie.Need-loop-again Inv-loop μ-loop
 loop-again c =
     let put = c .before .before .put-bits in
@@ -67,12 +49,12 @@ put-writes-spec =
     (tie.spec
     Inv-loop
     μ-loop
-    loop-holds
-    shared-slice-read-written
-    written-requires
-    put-bits-requires
-    add-i
-    loop-less
+    (λ c. search needs)
+    (λ c. search needs)
+    (λ c κs. search needs)
+    (λ c κs. search needs)
+    (λ c. search needs)
+    (λ c. search needs)
     loop-again
     same-length
     returns)

@@ -8,9 +8,6 @@ use Rattle.build.specs.Parts.{accessRefusals}
 use Rattle.build.proofs.refusal.Statement.{statement}
 use Rattle.build.proofs.refusal.Tie as tie
 
-outside-requires : tie.Need-outside-requires
-outside-requires c κs = search needs
-
 mul-if2 : tie.Need-mul-if2
 mul-if2 c = let few = inside _ _ _ (sym (c .before .outside .ensures) ∙ c .if1 .left) .few-bytes in search needs
 
@@ -30,4 +27,4 @@ unfolding accessRefusals first
 returns-3 c = rw (← c .before .before .outside .ensures, c .before .if1 .left, le-ltb _ _ (c .if2 .left))
 
 pub refusal-spec : {M : Type 1} → statement M
-refusal-spec = tie.close (tie.spec outside-requires mul-if2 add-if2 returns returns-2 returns-3)
+refusal-spec = tie.close (tie.spec (λ c κs. search needs) mul-if2 add-if2 returns returns-2 returns-3)

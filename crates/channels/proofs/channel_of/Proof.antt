@@ -6,15 +6,6 @@ use Rattle.channels.specs.Channel.{channelOf}
 use Rattle.channels.proofs.channel_of.Statement.{statement}
 use Rattle.channels.proofs.channel_of.Tie as tie
 
-cast-i : tie.Need-cast-i
-cast-i c = search needs
-
-sub-place : tie.Need-sub-place
-sub-place c = search needs
-
-cast-place : tie.Need-cast-place
-cast-place c = search needs
-
 returns : tie.Need-returns
 unfolding channelOf
 returns c = search cases
@@ -34,4 +25,4 @@ returns-4 c = search cases
 pub channel-of-spec : {M : Type 1} → statement M
 channel-of-spec =
     tie.close
-    (tie.spec cast-i sub-place cast-place returns returns-2 returns-3 returns-4)
+    (tie.spec (λ c. search needs) (λ c. search needs) (λ c. search needs) returns returns-2 returns-3 returns-4)

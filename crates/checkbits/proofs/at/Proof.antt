@@ -8,12 +8,9 @@ use Rattle.laws.proofs.Table.{tabulated}
 use Rattle.checkbits.proofs.at.Statement.{statement}
 use Rattle.checkbits.proofs.at.Tie as tie
 
-array-read-result : tie.Need-array-read-result
-array-read-result c = search needs
-
 returns : tie.Need-returns
 unfolding check remainder divide divideBit bit
 returns c = tabulated (check headerBits) 0 (2 ^ headerBits) (c .args .word) (c .pre)
 
 pub at-spec : {M : Type 1} → statement M
-at-spec = tie.close (tie.spec array-read-result returns)
+at-spec = tie.close (tie.spec (λ c. search needs) returns)

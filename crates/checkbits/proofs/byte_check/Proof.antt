@@ -7,18 +7,6 @@ use Rattle.checkbits.proofs.Fours.{four-more}
 use Rattle.checkbits.proofs.byte_check.Statement.{statement}
 use Rattle.checkbits.proofs.byte_check.Tie as tie
 
-four-requires : tie.Need-four-requires
-four-requires c κs = search needs
-
-four-requires-2 : tie.Need-four-requires-2
-four-requires-2 c κs = search needs
-
-cast-result : tie.Need-cast-result
-cast-result c = search needs
-
-sub-result : tie.Need-sub-result
-sub-result c = search needs
-
 returns : tie.Need-returns
 unfolding check remainder
 returns c =
@@ -26,4 +14,4 @@ returns c =
     (ap (λ (r : ℕ). 15 - r) (four-more 4 (c .before .before .args .value)))
 
 pub byte-check-spec : {M : Type 1} → statement M
-byte-check-spec = tie.close (tie.spec four-requires four-requires-2 cast-result sub-result returns)
+byte-check-spec = tie.close (tie.spec (λ c κs. search needs) (λ c κs. search needs) (λ c. search needs) (λ c. search needs) returns)

@@ -5,14 +5,8 @@ use Rattle.checkbits.proofs.Fours.{four-at}
 use Rattle.checkbits.proofs.four.Statement.{statement}
 use Rattle.checkbits.proofs.four.Tie as tie
 
-mul-place : tie.Need-mul-place
-mul-place c = search needs
-
-shr-result : tie.Need-shr-result
-shr-result c = search needs
-
 returns : tie.Need-returns
 returns c = (four-at _ _ (c .pre), omega arith)
 
 pub four-spec : {M : Type 1} → statement M
-four-spec = tie.close (tie.spec mul-place shr-result returns)
+four-spec = tie.close (tie.spec (λ c. search needs) (λ c. search needs) returns)

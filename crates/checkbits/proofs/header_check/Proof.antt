@@ -7,14 +7,8 @@ use Rattle.protocol.proofs.Division.{check-low}
 use Rattle.checkbits.proofs.header_check.Statement.{statement}
 use Rattle.checkbits.proofs.header_check.Tie as tie
 
-cast-at : tie.Need-cast-at
-cast-at c = search needs
-
-at-requires : tie.Need-at-requires
-at-requires c κs = search needs
-
 returns : tie.Need-returns
 returns c = c .at .ensures ∙ check-low headerBits _
 
 pub header-check-spec : {M : Type 1} → statement M
-header-check-spec = tie.close (tie.spec cast-at at-requires returns)
+header-check-spec = tie.close (tie.spec (λ c. search needs) (λ c κs. search needs) returns)

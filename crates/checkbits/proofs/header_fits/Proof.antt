@@ -8,18 +8,6 @@ use Rattle.checkbits.proofs.Fours.{three-fours}
 use Rattle.checkbits.proofs.header_fits.Statement.{statement}
 use Rattle.checkbits.proofs.header_fits.Tie as tie
 
-four-requires : tie.Need-four-requires
-four-requires c κs = search needs
-
-four-requires-2 : tie.Need-four-requires-2
-four-requires-2 c κs = search needs
-
-four-requires-3 : tie.Need-four-requires-3
-four-requires-3 c κs = search needs
-
-sub-result : tie.Need-sub-result
-sub-result c = search needs
-
 returns : tie.Need-returns
 unfolding fits check remainder
 returns c =
@@ -29,4 +17,4 @@ returns c =
 
 pub header-fits-spec : {M : Type 1} → statement M
 header-fits-spec =
-    tie.close (tie.spec four-requires four-requires-2 four-requires-3 sub-result returns)
+    tie.close (tie.spec (λ c κs. search needs) (λ c κs. search needs) (λ c κs. search needs) (λ c. search needs) returns)

@@ -5,12 +5,6 @@ use Rattle.checkbits.proofs.Words.{bool-lt, pushed-is}
 use Rattle.checkbits.proofs.pushed.Statement.{statement}
 use Rattle.checkbits.proofs.pushed.Tie as tie
 
-mul-result : tie.Need-mul-result
-mul-result c = search needs
-
-cast-result : tie.Need-cast-result
-cast-result c = search needs
-
 add-result : tie.Need-add-result
 add-result c = omega (arith, bool-lt (c .args .bit))
 
@@ -18,4 +12,4 @@ returns : tie.Need-returns
 returns c = (pushed-is _ _, omega (arith, bool-lt (c .args .bit)))
 
 pub pushed-spec : {M : Type 1} → statement M
-pushed-spec = tie.close (tie.spec mul-result cast-result add-result returns)
+pushed-spec = tie.close (tie.spec (λ c. search needs) (λ c. search needs) add-result returns)

@@ -6,12 +6,6 @@ use Rattle.protocol.specs.Text.{begins}
 use Rattle.cursor.proofs.is_column.Statement.{statement}
 use Rattle.cursor.proofs.is_column.Tie as tie
 
-is-bit-requires : tie.Need-is-bit-requires
-is-bit-requires c κs = search needs
-
-is-bit-requires-2 : tie.Need-is-bit-requires-2
-is-bit-requires-2 c κs = search needs
-
 returns : tie.Need-returns
 unfolding begins
 returns c =
@@ -38,4 +32,4 @@ returns-4 c = rw (← c .before .is-bit .ensures, c .if1 .left)
 
 pub is-column-spec : {M : Type 1} → statement M
 is-column-spec =
-    tie.close (tie.spec is-bit-requires is-bit-requires-2 returns returns-2 returns-3 returns-4)
+    tie.close (tie.spec (λ c κs. search needs) (λ c κs. search needs) returns returns-2 returns-3 returns-4)

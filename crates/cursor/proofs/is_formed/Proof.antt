@@ -6,14 +6,8 @@ use Rattle.cursor.proofs.Lines.{name-form, digit-form}
 use Rattle.cursor.proofs.is_formed.Statement.{statement}
 use Rattle.cursor.proofs.is_formed.Tie as tie
 
-array-read-result : tie.Need-array-read-result
-array-read-result c = search needs
-
 returns : tie.Need-returns
 returns c = name-form _ _ (c .if1 .taken)
-
-is-bit-requires : tie.Need-is-bit-requires
-is-bit-requires c κs = search needs
 
 returns-2 : tie.Need-returns-2
 returns-2 c = rw (column-form _ 1 (c .before .if1 .left) (c .match .keys1))
@@ -29,4 +23,4 @@ returns-4 c =
 
 pub is-formed-spec : {M : Type 1} → statement M
 is-formed-spec =
-    tie.close (tie.spec array-read-result returns is-bit-requires returns-2 returns-3 returns-4)
+    tie.close (tie.spec (λ c. search needs) returns (λ c κs. search needs) returns-2 returns-3 returns-4)

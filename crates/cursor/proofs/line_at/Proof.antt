@@ -4,9 +4,6 @@ use Rattle.laws.proofs.Rules.{cases}
 use Rattle.cursor.proofs.line_at.Statement.{statement}
 use Rattle.cursor.proofs.line_at.Tie as tie
 
-add-result : tie.Need-add-result
-add-result c = search needs
-
 returns : tie.Need-returns
 returns c = search cases
 
@@ -14,4 +11,4 @@ returns-2 : tie.Need-returns-2
 returns-2 c = search cases
 
 pub line-at-spec : {M : Type 1} → statement M
-line-at-spec = tie.close (tie.spec add-result returns returns-2)
+line-at-spec = tie.close (tie.spec (λ c. search needs) returns returns-2)

@@ -8,12 +8,6 @@ use Rattle.cursor.proofs.past_header.Tie as tie
 returns : tie.Need-returns
 returns c = nowhere _ _
 
-slice-aggregate-begins-with : tie.Need-slice-aggregate-begins-with
-slice-aggregate-begins-with c = search needs
-
-begins-with-requires : tie.Need-begins-with-requires
-begins-with-requires c κs = search needs
-
 returns-2 : tie.Need-returns-2
 returns-2 c =
     let asked = c .before in
@@ -25,4 +19,4 @@ returns-3 c = nowhere _ _
 pub past-header-spec : {M : Type 1} → statement M
 past-header-spec =
     tie.close
-    (tie.spec returns slice-aggregate-begins-with begins-with-requires returns-2 returns-3)
+    (tie.spec returns (λ c. search needs) (λ c κs. search needs) returns-2 returns-3)

@@ -16,54 +16,6 @@ Inv-loop piece from before i₀ i =
 abbrev μ-loop : tie.MeasureT-loop
 μ-loop piece from before i₀ i = length piece - i
 
-add-if1 : tie.Need-add-if1 Inv-loop μ-loop
-add-if1 c = search needs
-
-returns : tie.Need-returns Inv-loop μ-loop
-returns c = search needs
-
-add-if2 : tie.Need-add-if2 Inv-loop μ-loop
-add-if2 c = search needs
-
-returns-2 : tie.Need-returns-2 Inv-loop μ-loop
-returns-2 c = search needs
-
-loop-holds : tie.Need-loop-holds Inv-loop μ-loop
-loop-holds c = search needs
-
-sub-loop : tie.Need-sub-loop Inv-loop μ-loop
-sub-loop c = search needs
-
-shared-slice-read-is-column : tie.Need-shared-slice-read-is-column Inv-loop μ-loop
-shared-slice-read-is-column c = search needs
-
-add-is-column : tie.Need-add-is-column Inv-loop μ-loop
-add-is-column c = search needs
-
-shared-slice-read-is-column-2 : tie.Need-shared-slice-read-is-column-2 Inv-loop μ-loop
-shared-slice-read-is-column-2 c = search needs
-
-add-is-column-2 : tie.Need-add-is-column-2 Inv-loop μ-loop
-add-is-column-2 c = search needs
-
-shared-slice-read-is-column-3 : tie.Need-shared-slice-read-is-column-3 Inv-loop μ-loop
-shared-slice-read-is-column-3 c = search needs
-
-add-is-column-3 : tie.Need-add-is-column-3 Inv-loop μ-loop
-add-is-column-3 c = search needs
-
-shared-slice-read-is-column-4 : tie.Need-shared-slice-read-is-column-4 Inv-loop μ-loop
-shared-slice-read-is-column-4 c = search needs
-
-is-column-requires : tie.Need-is-column-requires Inv-loop μ-loop
-is-column-requires c κs = search needs
-
-add-i : tie.Need-add-i Inv-loop μ-loop
-add-i c = search needs
-
-loop-less : tie.Need-loop-less Inv-loop μ-loop
-loop-less c = search needs
-
 loop-again : tie.Need-loop-again Inv-loop μ-loop
 loop-again c =
     let said = c .before .is-column .ensures in
@@ -92,22 +44,22 @@ past-lines-spec =
     (tie.spec
     Inv-loop
     μ-loop
-    add-if1
-    returns
-    add-if2
-    returns-2
-    loop-holds
-    sub-loop
-    shared-slice-read-is-column
-    add-is-column
-    shared-slice-read-is-column-2
-    add-is-column-2
-    shared-slice-read-is-column-3
-    add-is-column-3
-    shared-slice-read-is-column-4
-    is-column-requires
-    add-i
-    loop-less
+    (λ c. search needs)
+    (λ c. search needs)
+    (λ c. search needs)
+    (λ c. search needs)
+    (λ c. search needs)
+    (λ c. search needs)
+    (λ c. search needs)
+    (λ c. search needs)
+    (λ c. search needs)
+    (λ c. search needs)
+    (λ c. search needs)
+    (λ c. search needs)
+    (λ c. search needs)
+    (λ c κs. search needs)
+    (λ c. search needs)
+    (λ c. search needs)
     loop-again
     returns-3
     returns-4)

@@ -9,18 +9,6 @@ use Rattle.cursor.proofs.stop_from.Tie as tie
 returns : tie.Need-returns
 returns c = past-end _ _ (c .if1 .taken)
 
-sub-stop-in : tie.Need-sub-stop-in
-sub-stop-in c = search needs
-
-part-stop-in-start : tie.Need-part-stop-in-start
-part-stop-in-start c = search needs
-
-part-stop-in-end : tie.Need-part-stop-in-end
-part-stop-in-end c = search needs
-
-stop-in-requires : tie.Need-stop-in-requires
-stop-in-requires c κs = search needs
-
 add-result : tie.Need-add-result
 add-result c =
     let left = c .before .before in
@@ -36,9 +24,9 @@ stop-from-spec =
     tie.close
     (tie.spec
     returns
-    sub-stop-in
-    part-stop-in-start
-    part-stop-in-end
-    stop-in-requires
+    (λ c. search needs)
+    (λ c. search needs)
+    (λ c. search needs)
+    (λ c κs. search needs)
     add-result
     returns-2)

@@ -14,9 +14,6 @@ Inv-loop piece before p₀ p = (p ≤ length piece) × (stop (p + before) (drop 
 abbrev μ-loop : tie.MeasureT-loop
 μ-loop piece before p₀ p = length piece - p
 
-past-header-requires : tie.Need-past-header-requires Inv-loop μ-loop
-past-header-requires c κs = search needs
-
 past-lines-requires : tie.Need-past-lines-requires Inv-loop μ-loop
 past-lines-requires c κs = (c .past-header .ensures .0, search needs)
 
@@ -24,24 +21,6 @@ loop-holds : tie.Need-loop-holds Inv-loop μ-loop
 loop-holds c =
     let said = c .past-lines .ensures in
     (said .1, said .2 ∙ c .before .past-header .ensures .1)
-
-add-is-formed : tie.Need-add-is-formed Inv-loop μ-loop
-add-is-formed c = search needs
-
-shared-slice-read-is-formed : tie.Need-shared-slice-read-is-formed Inv-loop μ-loop
-shared-slice-read-is-formed c = search needs
-
-is-formed-requires : tie.Need-is-formed-requires Inv-loop μ-loop
-is-formed-requires c κs = search needs
-
-add-past-lines : tie.Need-add-past-lines Inv-loop μ-loop
-add-past-lines c = search needs
-
-past-lines-requires-2 : tie.Need-past-lines-requires-2 Inv-loop μ-loop
-past-lines-requires-2 c κs = search needs
-
-loop-less : tie.Need-loop-less Inv-loop μ-loop
-loop-less c = search needs
 
 loop-again : tie.Need-loop-again Inv-loop μ-loop
 loop-again c =
@@ -69,15 +48,15 @@ walk-spec =
     (tie.spec
     Inv-loop
     μ-loop
-    past-header-requires
+    (λ c κs. search needs)
     past-lines-requires
     loop-holds
-    add-is-formed
-    shared-slice-read-is-formed
-    is-formed-requires
-    add-past-lines
-    past-lines-requires-2
-    loop-less
+    (λ c. search needs)
+    (λ c. search needs)
+    (λ c κs. search needs)
+    (λ c. search needs)
+    (λ c κs. search needs)
+    (λ c. search needs)
     loop-again
     returns
     returns-2)

@@ -6,9 +6,6 @@ use Rattle.cursor.proofs.Lines.{stop-within}
 use Rattle.intake.proofs.piece_of.Statement.{statement}
 use Rattle.intake.proofs.piece_of.Tie as tie
 
-stop-in-requires : tie.Need-stop-in-requires
-stop-in-requires c κs = search needs
-
 add-t6 : tie.Need-add-t6
 add-t6 c =
     let stopped = c .before in
@@ -16,14 +13,5 @@ add-t6 c =
     let low : stopped .stop-in .result ≤ length (a .text .now) = stop-within _ _ _ (stopped .stop-in .ensures) in
     search needs
 
-add-t8 : tie.Need-add-t8
-add-t8 c = search needs
-
-returns : tie.Need-returns
-returns c = search needs
-
-returns-2 : tie.Need-returns-2
-returns-2 c = search needs
-
 pub piece-of-spec : {M : Type 1} → statement M
-piece-of-spec = tie.close (tie.spec stop-in-requires add-t6 add-t8 returns returns-2)
+piece-of-spec = tie.close (tie.spec (λ c κs. search needs) add-t6 (λ c. search needs) (λ c. search needs) (λ c. search needs))

@@ -4,12 +4,9 @@ use Rattle.job.specs.Bytes.{areBits}
 use Rattle.job.proofs.are_bits.Statement.{statement}
 use Rattle.job.proofs.are_bits.Tie as tie
 
-none-above-requires : tie.Need-none-above-requires
-none-above-requires c κs = search needs
-
 returns : tie.Need-returns
 unfolding areBits
 returns c = c .none-above .ensures
 
 pub are-bits-spec : {M : Type 1} → statement M
-are-bits-spec = tie.close (tie.spec none-above-requires returns)
+are-bits-spec = tie.close (tie.spec (λ c κs. search needs) returns)

@@ -9,9 +9,6 @@ use Rattle.job.proofs.judged.Tie as tie
 returns : tie.Need-returns
 returns c = counts _ _ (c .if1 .taken)
 
-are-bits-requires : tie.Need-are-bits-requires
-are-bits-requires c κs = search needs
-
 returns-2 : tie.Need-returns-2
 unfolding first orElse
 returns-2 c = rw (c .before .before .if1 .left, ← c .before .are-bits .ensures, c .if2 .taken)
@@ -21,4 +18,4 @@ unfolding first orElse
 returns-3 c = rw (c .before .before .if1 .left, ← c .before .are-bits .ensures, c .if2 .left)
 
 pub judged-spec : {M : Type 1} → statement M
-judged-spec = tie.close (tie.spec returns are-bits-requires returns-2 returns-3)
+judged-spec = tie.close (tie.spec returns (λ c κs. search needs) returns-2 returns-3)

@@ -6,15 +6,9 @@ use Rattle.job.proofs.Rows.{judged-too}
 use Rattle.job.proofs.wrong_rows.Statement.{statement}
 use Rattle.job.proofs.wrong_rows.Tie as tie
 
-wrong-row-requires : tie.Need-wrong-row-requires
-wrong-row-requires c κs = search needs
-
-judged-requires : tie.Need-judged-requires
-judged-requires c κs = search needs
-
 returns : tie.Need-returns
 unfolding wrongRow wrongRows
 returns c = c .judged .ensures ∙ rw (c .before .wrong-row .ensures) (judged-too _ _ _ _)
 
 pub wrong-rows-spec : {M : Type 1} → statement M
-wrong-rows-spec = tie.close (tie.spec wrong-row-requires judged-requires returns)
+wrong-rows-spec = tie.close (tie.spec (λ c κs. search needs) (λ c κs. search needs) returns)

@@ -6,12 +6,6 @@ use Rattle.list_text.proofs.Parts.{field-named, field-unnamed}
 use Rattle.list_text.proofs.field_length.Statement.{statement}
 use Rattle.list_text.proofs.field_length.Tie as tie
 
-digit-count-requires : tie.Need-digit-count-requires
-digit-count-requires c κs = search needs
-
-add-result : tie.Need-add-result
-add-result c = search needs
-
 returns : tie.Need-returns
 returns c =
     let a = c .before .before .args in
@@ -25,4 +19,4 @@ returns-2 c =
     search needs
 
 pub field-length-spec : {M : Type 1} → statement M
-field-length-spec = tie.close (tie.spec digit-count-requires add-result returns returns-2)
+field-length-spec = tie.close (tie.spec (λ c κs. search needs) (λ c. search needs) returns returns-2)

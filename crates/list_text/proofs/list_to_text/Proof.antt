@@ -40,12 +40,6 @@ short c = sym (asked (c .before)) ∙ c .if2 .left
 fits : (c : tie.Else2) → length listHeader + length (entryLines (entriesOf (start (c .before .before .before)))) ≤ room (start (c .before .before .before))
 fits c = ltb-false _ _ (sym (c .before .too-long .ensures) ∙ c .if2 .left)
 
-slice-aggregate-header : tie.Need-slice-aggregate-header
-slice-aggregate-header c = search needs
-
-is-list-requires : tie.Need-is-list-requires
-is-list-requires c κs = search needs
-
 too-long-requires : tie.Need-too-long-requires
 too-long-requires c κs = is-one c
 
@@ -64,9 +58,6 @@ put-lines-requires c κs =
     let kept = laid-length (put .put-bytes .ensures) in
     (is-one (else .before .before), search needs)
 
-same-length : tie.Need-same-length
-same-length c = search needs
-
 returns-2 : tie.Need-returns-2
 unfolding listText
 returns-2 c =
@@ -83,12 +74,12 @@ pub list-to-text-spec : {M : Type 1} → statement M
 list-to-text-spec =
     tie.close
     (tie.spec
-    slice-aggregate-header
-    is-list-requires
+    (λ c. search needs)
+    (λ c κs. search needs)
     too-long-requires
     returns
     put-bytes-requires
     put-lines-requires
-    same-length
+    (λ c. search needs)
     returns-2
     returns-3)

@@ -14,9 +14,6 @@ put-number-requires c κs =
     let long = ap length (field-named (a .named) (a .n) (named .if1 .taken)) in
     search needs
 
-slice-aggregate-put-bytes : tie.Need-slice-aggregate-put-bytes
-slice-aggregate-put-bytes c = search needs
-
 put-bytes-requires : tie.Need-put-bytes-requires
 put-bytes-requires c κs =
     let unnamed = c .before .before in
@@ -24,18 +21,12 @@ put-bytes-requires c κs =
     let long = ap length (field-unnamed (a .named) (a .n) (unnamed .if1 .left)) in
     search needs
 
-same-length : tie.Need-same-length
-same-length c = search needs
-
 returns : tie.Need-returns
 returns c =
     let put = c .before .before in
     let named = put .before .before in
     let a = named .before .before .args in
     renamed (sym (field-named (a .named) (a .n) (named .if1 .taken))) (put .put-number .ensures)
-
-same-length-2 : tie.Need-same-length-2
-same-length-2 c = search needs
 
 returns-2 : tie.Need-returns-2
 returns-2 c =
@@ -49,9 +40,9 @@ put-field-spec =
     tie.close
     (tie.spec
     put-number-requires
-    slice-aggregate-put-bytes
+    (λ c. search needs)
     put-bytes-requires
-    same-length
+    (λ c. search needs)
     returns
-    same-length-2
+    (λ c. search needs)
     returns-2)

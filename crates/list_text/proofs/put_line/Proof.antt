@@ -42,12 +42,6 @@ behind-column : (c : tie.After-put-field)
     → LeftOf (start (name c)) Field.column (c .put-field .result) (c .put-field .last .0)
 behind-column c = field-behind _ Field.column _ refl (behind-name (name c)) (c .put-field .ensures)
 
-has-field-requires : tie.Need-has-field-requires
-has-field-requires c κs = search needs
-
-cast-put-field : tie.Need-cast-put-field
-cast-put-field c = search needs
-
 put-field-requires-2 : tie.Need-put-field-requires-2
 unfolding names
 put-field-requires-2 c κs = field-room _ Field.id _ (c .before .has-field .ensures) (behind-column (c .before .before .before .before .before))
@@ -60,12 +54,6 @@ behind-id : (c : tie.After-put-field2)
 unfolding names
 behind-id c = field-behind _ Field.id _ (c .before .before .has-field .ensures) (behind-column (column c)) (c .put-field2 .ensures)
 
-has-field-requires-2 : tie.Need-has-field-requires-2
-has-field-requires-2 c κs = search needs
-
-cast-put-field-2 : tie.Need-cast-put-field-2
-cast-put-field-2 c = search needs
-
 put-field-requires-3 : tie.Need-put-field-requires-3
 unfolding names
 put-field-requires-3 c κs = field-room _ Field.address _ (c .before .has-field2 .ensures) (behind-id (c .before .before .before .before .before))
@@ -77,12 +65,6 @@ behind-address : (c : tie.After-put-field3)
     → LeftOf (start (name (column (id c)))) Field.address (c .put-field3 .result) (c .put-field3 .last .0)
 unfolding names
 behind-address c = field-behind _ Field.address _ (c .before .before .has-field2 .ensures) (behind-id (id c)) (c .put-field3 .ensures)
-
-has-field-requires-3 : tie.Need-has-field-requires-3
-has-field-requires-3 c κs = search needs
-
-cast-put-field-3 : tie.Need-cast-put-field-3
-cast-put-field-3 c = search needs
 
 put-field-requires-4 : tie.Need-put-field-requires-4
 unfolding names
@@ -120,14 +102,14 @@ put-line-spec =
     (tie.spec
     put-name-requires
     put-field-requires
-    has-field-requires
-    cast-put-field
+    (λ c κs. search needs)
+    (λ c. search needs)
     put-field-requires-2
-    has-field-requires-2
-    cast-put-field-2
+    (λ c κs. search needs)
+    (λ c. search needs)
     put-field-requires-3
-    has-field-requires-3
-    cast-put-field-3
+    (λ c κs. search needs)
+    (λ c. search needs)
     put-field-requires-4
     slice-write-out
     add-result

@@ -24,24 +24,12 @@ loop-holds c =
     let start = c .before .before in
     (search needs, start .pre .0, left-all (start .pre .1))
 
-sub-loop : tie.Need-sub-loop Inv-loop μ-loop
-sub-loop c = search needs
-
-entry-at-requires : tie.Need-entry-at-requires Inv-loop μ-loop
-entry-at-requires c κs = search needs
-
 put-line-requires : tie.Need-put-line-requires Inv-loop μ-loop
 put-line-requires c κs =
     let turn = c .before .before in
     let l = turn .before .loop in
     let h = turn .loop-test .taken in
     (rw (c .entry-at .ensures) (kind-here _ (l .i) h (l .inv .1)), line-room _ (l .i) h (l .inv .1) (c .entry-at .ensures) (l .inv .2))
-
-add-i : tie.Need-add-i Inv-loop μ-loop
-add-i c = search needs
-
-loop-less : tie.Need-loop-less Inv-loop μ-loop
-loop-less c = search needs
 
 loop-again : tie.Need-loop-again Inv-loop μ-loop
 loop-again c =
@@ -69,11 +57,11 @@ put-lines-spec =
     Inv-loop
     μ-loop
     loop-holds
-    sub-loop
-    entry-at-requires
+    (λ c. search needs)
+    (λ c κs. search needs)
     put-line-requires
-    add-i
-    loop-less
+    (λ c. search needs)
+    (λ c. search needs)
     loop-again
     same-length
     returns)

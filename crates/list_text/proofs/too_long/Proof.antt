@@ -33,12 +33,6 @@ loop-holds c =
     let a = start .args in
     (search needs, start .pre, less-room (a .room) (a .before) _ (c .if1 .left))
 
-sub-loop : tie.Need-sub-loop Inv-loop μ-loop
-sub-loop c = search needs
-
-entry-at-requires : tie.Need-entry-at-requires Inv-loop μ-loop
-entry-at-requires c κs = search needs
-
 line-length-requires : tie.Need-line-length-requires Inv-loop μ-loop
 line-length-requires c κs =
     let turn = c .before in
@@ -52,12 +46,6 @@ returns-2 c =
     let long = lines-length _ (l .i) (turn .loop-test .taken) (l .inv .1) in
     let line = rw (c .before .before .entry-at .ensures) at (c .before .line-length .ensures) in
     sym (lt-ltb (l .left) _ (omega arith)) ∙ l .inv .2
-
-add-i : tie.Need-add-i Inv-loop μ-loop
-add-i c = search needs
-
-loop-less : tie.Need-loop-less Inv-loop μ-loop
-loop-less c = search needs
 
 loop-again : tie.Need-loop-again Inv-loop μ-loop
 loop-again c =
@@ -83,11 +71,11 @@ too-long-spec =
     μ-loop
     returns
     loop-holds
-    sub-loop
-    entry-at-requires
+    (λ c. search needs)
+    (λ c κs. search needs)
     line-length-requires
     returns-2
-    add-i
-    loop-less
+    (λ c. search needs)
+    (λ c. search needs)
     loop-again
     returns-3)

@@ -5,12 +5,6 @@ use Rattle.machine.specs.Zeros.{zerosAfter}
 use Rattle.machine.proofs.counted.Statement.{statement}
 use Rattle.machine.proofs.counted.Tie as tie
 
-sub-if2 : tie.Need-sub-if2
-sub-if2 c = search needs
-
-add-result : tie.Need-add-result
-add-result c = search needs
-
 returns : tie.Need-returns
 unfolding zerosAfter
 returns c = rw (c .if1 .taken)
@@ -24,4 +18,4 @@ unfolding zerosAfter
 returns-3 c = rw (c .before .if1 .left) (omega arith)
 
 pub counted-spec : {M : Type 1} → statement M
-counted-spec = tie.close (tie.spec sub-if2 add-result returns returns-2 returns-3)
+counted-spec = tie.close (tie.spec (λ c. search needs) (λ c. search needs) returns returns-2 returns-3)

@@ -7,15 +7,6 @@ use Rattle.names.specs.Names.{names}
 use Rattle.names.proofs.has_field.Statement.{statement}
 use Rattle.names.proofs.has_field.Tie as tie
 
-slice-aggregate-fields : tie.Need-slice-aggregate-fields
-slice-aggregate-fields c = search needs
-
-mul-result : tie.Need-mul-result
-mul-result c = search needs
-
-add-result : tie.Need-add-result
-add-result c = search needs
-
 shared-slice-read-result : tie.Need-shared-slice-read-result
 shared-slice-read-result c =
     let start = c .before .before in
@@ -31,4 +22,4 @@ returns c =
 pub has-field-spec : {M : Type 1} → statement M
 has-field-spec =
     tie.close
-    (tie.spec slice-aggregate-fields mul-result add-result shared-slice-read-result returns)
+    (tie.spec (λ c. search needs) (λ c. search needs) (λ c. search needs) shared-slice-read-result returns)

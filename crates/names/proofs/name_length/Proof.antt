@@ -8,9 +8,6 @@ use Rattle.names.specs.Names.{nameOf}
 use Rattle.names.proofs.name_length.Statement.{statement}
 use Rattle.names.proofs.name_length.Tie as tie
 
-slice-aggregate-lengths : tie.Need-slice-aggregate-lengths
-slice-aggregate-lengths c = search needs
-
 shared-slice-read-result : tie.Need-shared-slice-read-result
 shared-slice-read-result c =
     let start = c .before .before in
@@ -41,4 +38,4 @@ returns c =
 pub name-length-spec : {M : Type 1} → statement M
 name-length-spec =
     tie.close
-    (tie.spec slice-aggregate-lengths shared-slice-read-result sub-result cast-result returns)
+    (tie.spec (λ c. search needs) shared-slice-read-result sub-result cast-result returns)

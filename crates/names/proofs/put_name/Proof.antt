@@ -11,35 +11,11 @@ use Rattle.print.proofs.Laid.{renamed}
 use Rattle.names.proofs.put_name.Statement.{statement}
 use Rattle.names.proofs.put_name.Tie as tie
 
-mul-start : tie.Need-mul-start
-mul-start c = search needs
-
-name-length-requires : tie.Need-name-length-requires
-name-length-requires c κs = search needs
-
-add-end : tie.Need-add-end
-add-end c = search needs
-
-slice-aggregate-names : tie.Need-slice-aggregate-names
-slice-aggregate-names c = search needs
-
-sub-put-bytes : tie.Need-sub-put-bytes
-sub-put-bytes c = search needs
-
-part-put-bytes-start : tie.Need-part-put-bytes-start
-part-put-bytes-start c = search needs
-
 part-put-bytes-end : tie.Need-part-put-bytes-end
 part-put-bytes-end c =
     let start = c .before .before .before .before in
     let low = kind-low (start .args .kind) (start .pre .0) in
     search needs
-
-put-bytes-requires : tie.Need-put-bytes-requires
-put-bytes-requires c κs = search needs
-
-same-length : tie.Need-same-length
-same-length c = search needs
 
 returns : tie.Need-returns
 unfolding nameOf numbered joined
@@ -53,13 +29,13 @@ pub put-name-spec : {M : Type 1} → statement M
 put-name-spec =
     tie.close
     (tie.spec
-    mul-start
-    name-length-requires
-    add-end
-    slice-aggregate-names
-    sub-put-bytes
-    part-put-bytes-start
+    (λ c. search needs)
+    (λ c κs. search needs)
+    (λ c. search needs)
+    (λ c. search needs)
+    (λ c. search needs)
+    (λ c. search needs)
     part-put-bytes-end
-    put-bytes-requires
-    same-length
+    (λ c κs. search needs)
+    (λ c. search needs)
     returns)

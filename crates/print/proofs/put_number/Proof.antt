@@ -5,12 +5,6 @@ use Rattle.print.proofs.Laid.{then, one-byte, laid-length}
 use Rattle.print.proofs.put_number.Statement.{statement}
 use Rattle.print.proofs.put_number.Tie as tie
 
-slice-write-out : tie.Need-slice-write-out
-slice-write-out c = search needs
-
-add-put-decimal : tie.Need-add-put-decimal
-add-put-decimal c = search needs
-
 put-decimal-requires : tie.Need-put-decimal-requires
 put-decimal-requires c κs = rw length-set (search needs)
 
@@ -27,4 +21,4 @@ returns c =
     then (one-byte (a .out .now) (a .at) 9) (put .put-decimal .ensures)
 
 pub put-number-spec : {M : Type 1} → statement M
-put-number-spec = tie.close (tie.spec slice-write-out add-put-decimal put-decimal-requires same-length returns)
+put-number-spec = tie.close (tie.spec (λ c. search needs) (λ c. search needs) put-decimal-requires same-length returns)

@@ -7,18 +7,6 @@ use Rattle.read.proofs.Kept.{kept-empty}
 use Rattle.read.proofs.count.Statement.{statement}
 use Rattle.read.proofs.count.Tie as tie
 
-slice-relend-prefix-scan : tie.Need-slice-relend-prefix-scan
-slice-relend-prefix-scan c = search needs
-
-slice-aggregate-scan : tie.Need-slice-aggregate-scan
-slice-aggregate-scan c = search needs
-
-scan-requires : tie.Need-scan-requires
-scan-requires c κs = search needs
-
-same-length : tie.Need-same-length
-same-length c = search needs
-
 returns : tie.Need-returns
 returns c =
     let lent = c .before .before .before .before .before .before .before .args .out .now in
@@ -27,4 +15,4 @@ returns c =
 pub count-spec : {M : Type 1} → statement M
 count-spec =
     tie.close
-    (tie.spec slice-relend-prefix-scan slice-aggregate-scan scan-requires same-length returns)
+    (tie.spec (λ c. search needs) (λ c. search needs) (λ c κs. search needs) (λ c. search needs) returns)

@@ -10,15 +10,6 @@ use Rattle.read.specs.Read.{listOf}
 use Rattle.read.proofs.has_room.Statement.{statement}
 use Rattle.read.proofs.has_room.Tie as tie
 
-sub-if1 : tie.Need-sub-if1
-sub-if1 c = search needs
-
-count-requires : tie.Need-count-requires
-count-requires c κs = search needs
-
-same-length : tie.Need-same-length
-same-length c = search needs
-
 returns : tie.Need-returns
 returns c = (rw (c .before .before .count .ensures .0), c .before .before .count .ensures .1)
 
@@ -29,4 +20,4 @@ returns-2 c =
     (sym (le-leb (length list) (roomOf (a .out .now)) (omega (arith, length-listed (a .opening) (a .cdm .now) (a .cds .now)))), refl)
 
 pub has-room-spec : {M : Type 1} → statement M
-has-room-spec = tie.close (tie.spec sub-if1 count-requires same-length returns returns-2)
+has-room-spec = tie.close (tie.spec (λ c. search needs) (λ c κs. search needs) (λ c. search needs) returns returns-2)

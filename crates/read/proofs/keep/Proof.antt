@@ -5,18 +5,6 @@ use Rattle.read.specs.Parts.{kept}
 use Rattle.read.proofs.keep.Statement.{statement}
 use Rattle.read.proofs.keep.Tie as tie
 
-add-next : tie.Need-add-next
-add-next c = search needs
-
-mul-put : tie.Need-mul-put
-mul-put c = search needs
-
-put-requires : tie.Need-put-requires
-put-requires c κs = search needs
-
-same-length : tie.Need-same-length
-same-length c = search needs
-
 returns : tie.Need-returns
 unfolding kept
 returns c = (search needs, rw (lt-ltb _ _ (c .before .before .before .before .if1 .taken)) (c .before .before .put .ensures))
@@ -26,4 +14,4 @@ unfolding kept
 returns-2 c = (search needs, rw (le-ltb _ _ (c .if1 .left)))
 
 pub keep-spec : {M : Type 1} → statement M
-keep-spec = tie.close (tie.spec add-next mul-put put-requires same-length returns returns-2)
+keep-spec = tie.close (tie.spec (λ c. search needs) (λ c. search needs) (λ c κs. search needs) (λ c. search needs) returns returns-2)

@@ -5,9 +5,6 @@ use Rattle.read.proofs.Ends.{rows-through, rows-refused, room-refused, 
 use Rattle.read.proofs.read.Statement.{statement}
 use Rattle.read.proofs.read.Tie as tie
 
-rows-refusal-requires : tie.Need-rows-refusal-requires
-rows-refusal-requires c κs = search needs
-
 returns : tie.Need-returns
 returns c = rows-refused _ _ _ _ _ (c .before .rows-refusal .ensures) (c .if1 .taken)
 
@@ -19,18 +16,12 @@ scan-requires c κs =
     let good = c .before .before .before .before .before .before in
     rows-through _ _ _ (gave-none _ (good .before .rows-refusal .ensures) (good .if1 .left))
 
-same-length : tie.Need-same-length
-same-length c = search needs
-
 returns-2 : tie.Need-returns-2
 returns-2 c =
     let room = c .before .before .before .before .before .before .before in
     let good = room .before .before in
     list-made _ _ _ _ (gave-none _ (good .before .rows-refusal .ensures) (good .if1 .left)) _ (room .has-room .ensures .0)
     (c .before .before .before .before .if2 .taken) _ _ _ (room .has-room .ensures .1) (c .before .before .scan .ensures .0) (c .before .before .scan .ensures .1)
-
-same-length-2 : tie.Need-same-length-2
-same-length-2 c = search needs
 
 returns-3 : tie.Need-returns-3
 returns-3 c =
@@ -42,11 +33,11 @@ pub read-spec : {M : Type 1} → statement M
 read-spec =
     tie.close
     (tie.spec
-    rows-refusal-requires
+    (λ c κs. search needs)
     returns
     has-room-requires
     scan-requires
-    same-length
+    (λ c. search needs)
     returns-2
-    same-length-2
+    (λ c. search needs)
     returns-3)

@@ -4,21 +4,6 @@ use Rattle.reader.proofs.Turns.{begun-ends}
 use Rattle.reader.proofs.fourteenth.Statement.{statement}
 use Rattle.reader.proofs.fourteenth.Tie as tie
 
-enum-told : tie.Need-enum-told
-enum-told c = search needs
-
-rests-requires : tie.Need-rests-requires
-rests-requires c κs = search needs
-
-enum-told-2 : tie.Need-enum-told-2
-enum-told-2 c = search needs
-
-rests-requires-2 : tie.Need-rests-requires-2
-rests-requires-2 c κs = search needs
-
-rests-requires-3 : tie.Need-rests-requires-3
-rests-requires-3 c κs = search needs
-
 returns : tie.Need-returns
 returns c = rw (c .before .enum-told .given .1) (c .rests .ensures)
 
@@ -31,4 +16,4 @@ returns-3 c = let a = c .before .before .args in rw (begun-ends (a .phase) (a .b
 pub fourteenth-spec : {M : Type 1} → statement M
 fourteenth-spec =
     tie.close
-    (tie.spec enum-told rests-requires enum-told-2 rests-requires-2 rests-requires-3 returns returns-2 returns-3)
+    (tie.spec (λ c. search needs) (λ c κs. search needs) (λ c. search needs) (λ c κs. search needs) (λ c κs. search needs) returns returns-2 returns-3)

@@ -4,12 +4,6 @@ use Rattle.reader.proofs.Turns.{quiet}
 use Rattle.reader.proofs.rest.Statement.{statement}
 use Rattle.reader.proofs.rest.Tie as tie
 
-go-requires : tie.Need-go-requires
-go-requires c κs = search needs
-
-go-requires-2 : tie.Need-go-requires-2
-go-requires-2 c κs = search needs
-
 returns : tie.Need-returns
 returns c = quiet (c .go .ensures) (rw (c .before .if1 .taken))
 
@@ -17,4 +11,4 @@ returns-2 : tie.Need-returns-2
 returns-2 c = quiet (c .go2 .ensures) (rw (c .before .if1 .left))
 
 pub rest-spec : {M : Type 1} → statement M
-rest-spec = tie.close (tie.spec go-requires go-requires-2 returns returns-2)
+rest-spec = tie.close (tie.spec (λ c κs. search needs) (λ c κs. search needs) returns returns-2)

@@ -5,21 +5,6 @@ use Rattle.report.proofs.Rows.{long-none, long-bad}
 use Rattle.report.proofs.long_report.Statement.{statement}
 use Rattle.report.proofs.long_report.Tie as tie
 
-is-fault-requires : tie.Need-is-fault-requires
-is-fault-requires c κs = search needs
-
-line-at-requires : tie.Need-line-at-requires
-line-at-requires c κs = search needs
-
-refused-requires : tie.Need-refused-requires
-refused-requires c κs = search needs
-
-refused-requires-2 : tie.Need-refused-requires-2
-refused-requires-2 c κs = search needs
-
-same-length : tie.Need-same-length
-same-length c = search needs
-
 returns : tie.Need-returns
 returns c =
     let told = c .before .before in
@@ -27,9 +12,6 @@ returns c =
     let bad = line .before in
     let a = bad .before .before .before .args in
     rw (long-bad (a .stop) (a .end) (sym (bad .before .is-fault .ensures) ∙ bad .if1 .taken) _ (line .line-at .ensures)) (told .refused .ensures)
-
-same-length-2 : tie.Need-same-length-2
-same-length-2 c = search needs
 
 returns-2 : tie.Need-returns-2
 returns-2 c =
@@ -42,11 +24,11 @@ pub long-report-spec : {M : Type 1} → statement M
 long-report-spec =
     tie.close
     (tie.spec
-    is-fault-requires
-    line-at-requires
-    refused-requires
-    refused-requires-2
-    same-length
+    (λ c κs. search needs)
+    (λ c κs. search needs)
+    (λ c κs. search needs)
+    (λ c κs. search needs)
+    (λ c. search needs)
     returns
-    same-length-2
+    (λ c. search needs)
     returns-2)

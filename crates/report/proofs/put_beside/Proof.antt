@@ -11,12 +11,6 @@ use Rattle.report.proofs.Lines.{twenty}
 use Rattle.report.proofs.put_beside.Statement.{statement}
 use Rattle.report.proofs.put_beside.Tie as tie
 
-enum-told : tie.Need-enum-told
-enum-told c = search needs
-
-enum-known-beside : tie.Need-enum-known-beside
-enum-known-beside c = search needs
-
 put-number-requires : tie.Need-put-number-requires
 put-number-requires c κs =
     let line = c .before .before .beside .given .0 .0 in
@@ -26,9 +20,6 @@ put-number-requires c κs =
 returns : tie.Need-returns
 unfolding fields
 returns c = rw (c .enum-told .given .1) (record { behind = search needs; laid = refl }, search needs)
-
-same-length : tie.Need-same-length
-same-length c = search needs
 
 returns-2 : tie.Need-returns-2
 unfolding fields
@@ -42,4 +33,4 @@ returns-2 c =
 pub put-beside-spec : {M : Type 1} → statement M
 put-beside-spec =
     tie.close
-    (tie.spec enum-told enum-known-beside put-number-requires returns same-length returns-2)
+    (tie.spec (λ c. search needs) (λ c. search needs) put-number-requires returns (λ c. search needs) returns-2)

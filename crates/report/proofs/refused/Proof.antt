@@ -12,18 +12,6 @@ use Rattle.report.proofs.Lines.{twenty, number-end, refused-front}
 use Rattle.report.proofs.refused.Statement.{statement}
 use Rattle.report.proofs.refused.Tie as tie
 
-slice-aggregate-put-bytes : tie.Need-slice-aggregate-put-bytes
-slice-aggregate-put-bytes c = search needs
-
-slice-aggregate-put-bytes-2 : tie.Need-slice-aggregate-put-bytes-2
-slice-aggregate-put-bytes-2 c = search needs
-
-put-bytes-requires : tie.Need-put-bytes-requires
-put-bytes-requires c κs = search needs
-
-slice-aggregate-put-number : tie.Need-slice-aggregate-put-number
-slice-aggregate-put-number c = search needs
-
 put-number-requires : tie.Need-put-number-requires
 put-number-requires c κs =
     let word = c .before .before in
@@ -32,9 +20,6 @@ put-number-requires c κs =
     let kept = laid-length (word .put-bytes .ensures) in
     let at = word .put-bytes .ensures .behind in
     search needs
-
-slice-aggregate-put-beside : tie.Need-slice-aggregate-put-beside
-slice-aggregate-put-beside c = search needs
 
 put-beside-requires : tie.Need-put-beside-requires
 put-beside-requires c κs =
@@ -73,12 +58,6 @@ slice-aggregate-whole c =
     let end = number-end _ (search needs) (word .put-bytes .ensures) (number .put-number .ensures) in
     sym (length-take-le _ _ (rw length-set (search needs)))
 
-whole-requires : tie.Need-whole-requires
-whole-requires c κs = search needs
-
-same-length : tie.Need-same-length
-same-length c = search needs
-
 returns : tie.Need-returns
 returns c =
     let whole = c .before .before in
@@ -94,17 +73,17 @@ pub refused-spec : {M : Type 1} → statement M
 refused-spec =
     tie.close
     (tie.spec
-    slice-aggregate-put-bytes
-    slice-aggregate-put-bytes-2
-    put-bytes-requires
-    slice-aggregate-put-number
+    (λ c. search needs)
+    (λ c. search needs)
+    (λ c κs. search needs)
+    (λ c. search needs)
     put-number-requires
-    slice-aggregate-put-beside
+    (λ c. search needs)
     put-beside-requires
     array-write-line
     add-line
     array-share-prefix-line
     slice-aggregate-whole
-    whole-requires
-    same-length
+    (λ c κs. search needs)
+    (λ c. search needs)
     returns)

@@ -6,18 +6,6 @@ use Rattle.report.proofs.Rows.{lists, reports-list}
 use Rattle.report.proofs.rows_report.Statement.{statement}
 use Rattle.report.proofs.rows_report.Tie as tie
 
-list-room-requires : tie.Need-list-room-requires
-list-room-requires c κs = search needs
-
-slice-aggregate-read : tie.Need-slice-aggregate-read
-slice-aggregate-read c = search needs
-
-read-requires : tie.Need-read-requires
-read-requires c κs = search needs
-
-enum-known-listed : tie.Need-enum-known-listed
-enum-known-listed c = search needs
-
 mul-list : tie.Need-mul-list
 mul-list c =
     let told = c .before in
@@ -45,18 +33,6 @@ slice-aggregate-list-to-text c =
     let l = rw (told .listed .given .1) at (lists _ _ _ pre _ (room .list-room .ensures) _ (read .read .ensures)) in
     sym (length-take-le _ _ (l .1))
 
-list-to-text-requires : tie.Need-list-to-text-requires
-list-to-text-requires c κs = search needs
-
-enum-known-listed-2 : tie.Need-enum-known-listed-2
-enum-known-listed-2 c = search needs
-
-refused-requires : tie.Need-refused-requires
-refused-requires c κs = search needs
-
-same-length : tie.Need-same-length
-same-length c = search needs
-
 returns : tie.Need-returns
 returns c =
     let print = c .before .before in
@@ -66,9 +42,6 @@ returns c =
     let pre = room .before .before .before .before .pre in
     let l = rw (told .listed .given .1) at (lists _ _ _ pre _ (room .list-room .ensures) _ (read .read .ensures)) in
     reports-list _ _ _ (l .0) (l .2) (print .list-to-text .ensures)
-
-same-length-2 : tie.Need-same-length-2
-same-length-2 c = search needs
 
 returns-2 : tie.Need-returns-2
 returns-2 c =
@@ -84,17 +57,17 @@ pub rows-report-spec : {M : Type 1} → statement M
 rows-report-spec =
     tie.close
     (tie.spec
-    list-room-requires
-    slice-aggregate-read
-    read-requires
-    enum-known-listed
+    (λ c κs. search needs)
+    (λ c. search needs)
+    (λ c κs. search needs)
+    (λ c. search needs)
     mul-list
     array-share-prefix-list
     slice-aggregate-list-to-text
-    list-to-text-requires
-    enum-known-listed-2
-    refused-requires
-    same-length
+    (λ c κs. search needs)
+    (λ c. search needs)
+    (λ c κs. search needs)
+    (λ c. search needs)
     returns
-    same-length-2
+    (λ c. search needs)
     returns-2)

@@ -7,16 +7,10 @@ use Rattle.report.proofs.whole.Tie as tie
 returns : tie.Need-returns
 returns c = crowded _ _ (c .if1 .taken)
 
-put-bytes-requires : tie.Need-put-bytes-requires
-put-bytes-requires c κs = search needs
-
-same-length : tie.Need-same-length
-same-length c = search needs
-
 returns-2 : tie.Need-returns-2
 returns-2 c =
     let put = c .before .before in
     roomy _ _ (put .before .before .if1 .left) (put .put-bytes .ensures)
 
 pub whole-spec : {M : Type 1} → statement M
-whole-spec = tie.close (tie.spec returns put-bytes-requires same-length returns-2)
+whole-spec = tie.close (tie.spec returns (λ c κs. search needs) (λ c. search needs) returns-2)

@@ -21,15 +21,6 @@ Inv-loop out₀ at cdm cds p₀ k₀ out p k =
 abbrev μ-loop : tie.MeasureT-loop
 μ-loop out₀ at cdm cds p₀ k₀ out p k = length cdm - k
 
-loop-holds : tie.Need-loop-holds Inv-loop μ-loop
-loop-holds c = search needs
-
-shared-slice-read-put-column : tie.Need-shared-slice-read-put-column Inv-loop μ-loop
-shared-slice-read-put-column c = search needs
-
-shared-slice-read-put-column-2 : tie.Need-shared-slice-read-put-column-2 Inv-loop μ-loop
-shared-slice-read-put-column-2 c = search needs
-
 put-column-requires : tie.Need-put-column-requires Inv-loop μ-loop
 unfolding areBits
 put-column-requires c κs =
@@ -37,12 +28,6 @@ put-column-requires c κs =
     let l = turn .before .loop in
     let start = turn .before .before .before .before .before in
     (search needs, byte-at _ _ (l .k) (start .pre .2), byte-at _ _ (l .k) (start .pre .3))
-
-add-k : tie.Need-add-k Inv-loop μ-loop
-add-k c = search needs
-
-loop-less : tie.Need-loop-less Inv-loop μ-loop
-loop-less c = search needs
 
 loop-again : tie.Need-loop-again Inv-loop μ-loop
 loop-again c =
@@ -78,12 +63,12 @@ put-columns-spec =
     (tie.spec
     Inv-loop
     μ-loop
-    loop-holds
-    shared-slice-read-put-column
-    shared-slice-read-put-column-2
+    (λ c. search needs)
+    (λ c. search needs)
+    (λ c. search needs)
     put-column-requires
-    add-k
-    loop-less
+    (λ c. search needs)
+    (λ c. search needs)
     loop-again
     same-length
     returns)

@@ -19,33 +19,6 @@ Inv-loop text cdm₀ cds₀ columns k₀ i₀ cdm cds k i =
 abbrev μ-loop : tie.MeasureT-loop
 μ-loop text cdm₀ cds₀ columns k₀ i₀ cdm cds k i = columns - k
 
-loop-holds : tie.Need-loop-holds Inv-loop μ-loop
-loop-holds c = search needs
-
-shared-slice-read-cdm : tie.Need-shared-slice-read-cdm Inv-loop μ-loop
-shared-slice-read-cdm c = search needs
-
-slice-write-cdm : tie.Need-slice-write-cdm Inv-loop μ-loop
-slice-write-cdm c = search needs
-
-add-cds : tie.Need-add-cds Inv-loop μ-loop
-add-cds c = search needs
-
-shared-slice-read-cds : tie.Need-shared-slice-read-cds Inv-loop μ-loop
-shared-slice-read-cds c = search needs
-
-slice-write-cds : tie.Need-slice-write-cds Inv-loop μ-loop
-slice-write-cds c = search needs
-
-add-k : tie.Need-add-k Inv-loop μ-loop
-add-k c = search needs
-
-add-i : tie.Need-add-i Inv-loop μ-loop
-add-i c = search needs
-
-loop-less : tie.Need-loop-less Inv-loop μ-loop
-loop-less c = search needs
-
 loop-again : tie.Need-loop-again Inv-loop μ-loop
 loop-again c =
     let turn = c .before .before in
@@ -80,15 +53,15 @@ put-rows-spec =
     (tie.spec
     Inv-loop
     μ-loop
-    loop-holds
-    shared-slice-read-cdm
-    slice-write-cdm
-    add-cds
-    shared-slice-read-cds
-    slice-write-cds
-    add-k
-    add-i
-    loop-less
+    (λ c. search needs)
+    (λ c. search needs)
+    (λ c. search needs)
+    (λ c. search needs)
+    (λ c. search needs)
+    (λ c. search needs)
+    (λ c. search needs)
+    (λ c. search needs)
+    (λ c. search needs)
     loop-again
     same-length
     same-length-2

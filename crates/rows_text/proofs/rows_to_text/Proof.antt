@@ -10,9 +10,6 @@ use Rattle.print.proofs.Laid.{then, laid-length}
 use Rattle.rows_text.proofs.rows_to_text.Statement.{statement}
 use Rattle.rows_text.proofs.rows_to_text.Tie as tie
 
-wrong-rows-requires : tie.Need-wrong-rows-requires
-wrong-rows-requires c κs = search needs
-
 returns : tie.Need-returns
 returns c = ended-given _ _ _ _ (rows-wrong _ _ _ _ (c .before .wrong-rows .ensures) (c .if1 .taken)) (c .if1 .taken)
 
@@ -28,12 +25,6 @@ returns-2 c =
     let none = gave-none _ (asked .wrong-rows .ensures) (c .before .if1 .left) in
     ended-given _ _ _ 9 (rows-nine _ _ _ none (c .if2 .taken)) (λ q. search needs)
 
-slice-aggregate-put-bytes : tie.Need-slice-aggregate-put-bytes
-slice-aggregate-put-bytes c = search needs
-
-put-bytes-requires : tie.Need-put-bytes-requires
-put-bytes-requires c κs = search needs
-
 put-columns-requires : tie.Need-put-columns-requires
 put-columns-requires c κs =
     let put = c .before .before .before in
@@ -42,9 +33,6 @@ put-columns-requires c κs =
     let right = right-rows _ _ (gave-none _ (asked .wrong-rows .ensures) (fits .before .if1 .left)) in
     let kept = laid-length (put .put-bytes .ensures) in
     (search needs, right .same, right .cdm-bits, right .cds-bits)
-
-same-length : tie.Need-same-length
-same-length c = search needs
 
 returns-3 : tie.Need-returns-3
 unfolding rowsText
@@ -62,13 +50,13 @@ pub rows-to-text-spec : {M : Type 1} → statement M
 rows-to-text-spec =
     tie.close
     (tie.spec
-    wrong-rows-requires
+    (λ c κs. search needs)
     returns
     mul-if2
     add-if2
     returns-2
-    slice-aggregate-put-bytes
-    put-bytes-requires
+    (λ c. search needs)
+    (λ c κs. search needs)
     put-columns-requires
-    same-length
+    (λ c. search needs)
     returns-3)

@@ -8,15 +8,6 @@ use Rattle.rows_text.proofs.Ends.{room-enough, taken-bad, taken-refused
 use Rattle.rows_text.proofs.text_to_rows.Statement.{statement}
 use Rattle.rows_text.proofs.text_to_rows.Tie as tie
 
-stop-of-requires : tie.Need-stop-of-requires
-stop-of-requires c κs = search needs
-
-is-fault-requires : tie.Need-is-fault-requires
-is-fault-requires c κs = search needs
-
-line-at-requires : tie.Need-line-at-requires
-line-at-requires c κs = search needs
-
 returns : tie.Need-returns
 returns c =
     let bad = c .before in
@@ -29,9 +20,6 @@ sub-columns c =
     let none-there = fault-none _ _ (asked .before .stop-of .ensures) (sym (asked .is-fault .ensures) ∙ c .if1 .left) in
     let long = good-long _ (nothing-wrong _ none-there) in
     search needs
-
-text-room-requires : tie.Need-text-room-requires
-text-room-requires c κs = search needs
 
 returns-2 : tie.Need-returns-2
 returns-2 c =
@@ -50,12 +38,6 @@ put-rows-requires c κs =
     let rows = room-enough _ _ _ (gave-none _ (room .before .text-room .ensures) (room .if2 .left)) in
     search needs
 
-same-length : tie.Need-same-length
-same-length c = search needs
-
-same-length-2 : tie.Need-same-length-2
-same-length-2 c = search needs
-
 returns-3 : tie.Need-returns-3
 returns-3 c =
     let put = c .before .before .before .before in
@@ -69,14 +51,14 @@ pub text-to-rows-spec : {M : Type 1} → statement M
 text-to-rows-spec =
     tie.close
     (tie.spec
-    stop-of-requires
-    is-fault-requires
-    line-at-requires
+    (λ c κs. search needs)
+    (λ c κs. search needs)
+    (λ c κs. search needs)
     returns
     sub-columns
-    text-room-requires
+    (λ c κs. search needs)
     returns-2
     put-rows-requires
-    same-length
-    same-length-2
+    (λ c. search needs)
+    (λ c. search needs)
     returns-3)

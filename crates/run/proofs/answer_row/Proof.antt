@@ -27,9 +27,6 @@ Inv-loop slaves rights registers₀ cdm cds₀ i₀ registers cds i =
 abbrev μ-loop : tie.MeasureT-loop
 μ-loop slaves rights registers₀ cdm cds₀ i₀ registers cds i = slaves - i
 
-clear-requires : tie.Need-clear-requires Inv-loop μ-loop
-clear-requires c κs = search needs
-
 loop-holds : tie.Need-loop-holds Inv-loop μ-loop
 loop-holds c =
     let start = c .before .before .before .before .before .before .before .before in
@@ -45,30 +42,6 @@ loop-holds c =
       rw zeros (gathered-first (a .slaves) (a .registers .now) (a .rights .now) (a .cdm .now)),
     )
 
-mul-at : tie.Need-mul-at Inv-loop μ-loop
-mul-at c = search needs
-
-add-end : tie.Need-add-end Inv-loop μ-loop
-add-end c = search needs
-
-sub-pass-slave : tie.Need-sub-pass-slave Inv-loop μ-loop
-sub-pass-slave c = search needs
-
-part-pass-slave-start : tie.Need-part-pass-slave-start Inv-loop μ-loop
-part-pass-slave-start c = search needs
-
-part-pass-slave-end : tie.Need-part-pass-slave-end Inv-loop μ-loop
-part-pass-slave-end c = search needs
-
-sub-pass-slave-2 : tie.Need-sub-pass-slave-2 Inv-loop μ-loop
-sub-pass-slave-2 c = search needs
-
-part-pass-slave-start-2 : tie.Need-part-pass-slave-start-2 Inv-loop μ-loop
-part-pass-slave-start-2 c = search needs
-
-part-pass-slave-end-2 : tie.Need-part-pass-slave-end-2 Inv-loop μ-loop
-part-pass-slave-end-2 c = search needs
-
 pass-slave-requires : tie.Need-pass-slave-requires Inv-loop μ-loop
 pass-slave-requires c κs =
     let test = c .before .before .before in
@@ -81,12 +54,6 @@ pass-slave-requires c κs =
       own-long k (l .i) (start .args .rights .now) size (omega (arith, holds .all-rights, test .loop-test .taken)),
       l .inv .2,
     )
-
-add-i : tie.Need-add-i Inv-loop μ-loop
-add-i c = search needs
-
-loop-less : tie.Need-loop-less Inv-loop μ-loop
-loop-less c = search needs
 
 loop-again : tie.Need-loop-again Inv-loop μ-loop
 loop-again c =
@@ -134,19 +101,19 @@ answer-row-spec =
     (tie.spec
     Inv-loop
     μ-loop
-    clear-requires
+    (λ c κs. search needs)
     loop-holds
-    mul-at
-    add-end
-    sub-pass-slave
-    part-pass-slave-start
-    part-pass-slave-end
-    sub-pass-slave-2
-    part-pass-slave-start-2
-    part-pass-slave-end-2
+    (λ c. search needs)
+    (λ c. search needs)
+    (λ c. search needs)
+    (λ c. search needs)
+    (λ c. search needs)
+    (λ c. search needs)
+    (λ c. search needs)
+    (λ c. search needs)
     pass-slave-requires
-    add-i
-    loop-less
+    (λ c. search needs)
+    (λ c. search needs)
     loop-again
     same-length
     same-length-2

@@ -15,15 +15,6 @@ Inv-loop cds₀ i₀ cds i = (i ≤ length cds) × (length cds ≡ length cds₀
 abbrev μ-loop : tie.MeasureT-loop
 μ-loop cds₀ i₀ cds i = length cds - i
 
-loop-holds : tie.Need-loop-holds Inv-loop μ-loop
-loop-holds c = search needs
-
-slice-write-cds : tie.Need-slice-write-cds Inv-loop μ-loop
-slice-write-cds c = search needs
-
-add-i : tie.Need-add-i Inv-loop μ-loop
-add-i c = search needs
-
 loop-less : tie.Need-loop-less Inv-loop μ-loop
 loop-less c = rw length-set (search needs)
 
@@ -47,9 +38,9 @@ clear-spec =
     (tie.spec
     Inv-loop
     μ-loop
-    loop-holds
-    slice-write-cds
-    add-i
+    (λ c. search needs)
+    (λ c. search needs)
+    (λ c. search needs)
     loop-less
     loop-again
     same-length

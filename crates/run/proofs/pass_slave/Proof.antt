@@ -27,56 +27,8 @@ Inv-loop rights registers₀ cdm cds₀ slave₀ i₀ registers cds slave i =
 abbrev μ-loop : tie.MeasureT-loop
 μ-loop rights registers₀ cdm cds₀ slave₀ i₀ registers cds slave i = length cdm - i
 
-new-requires : tie.Need-new-requires Inv-loop μ-loop
-new-requires c κs = search needs
-
 loop-holds : tie.Need-loop-holds Inv-loop μ-loop
 loop-holds c = (search needs, refl, refl, rw (c .new .ensures), rw (c .new .ensures))
-
-shared-slice-read-master : tie.Need-shared-slice-read-master Inv-loop μ-loop
-shared-slice-read-master c = search needs
-
-slice-read-far : tie.Need-slice-read-far Inv-loop μ-loop
-slice-read-far c = search needs
-
-silent-requires : tie.Need-silent-requires Inv-loop μ-loop
-silent-requires c κs = search needs
-
-cast-cds : tie.Need-cast-cds Inv-loop μ-loop
-cast-cds c = search needs
-
-slice-write-cds : tie.Need-slice-write-cds Inv-loop μ-loop
-slice-write-cds c = search needs
-
-heard-requires : tie.Need-heard-requires Inv-loop μ-loop
-heard-requires c κs = search needs
-
-address-requires : tie.Need-address-requires Inv-loop μ-loop
-address-requires c κs = search needs
-
-shared-slice-read-cds : tie.Need-shared-slice-read-cds Inv-loop μ-loop
-shared-slice-read-cds c = search needs
-
-slice-read-t25 : tie.Need-slice-read-t25 Inv-loop μ-loop
-slice-read-t25 c = search needs
-
-step-requires : tie.Need-step-requires Inv-loop μ-loop
-step-requires c κs = search needs
-
-slice-write-registers : tie.Need-slice-write-registers Inv-loop μ-loop
-slice-write-registers c = search needs
-
-cast-cds-2 : tie.Need-cast-cds-2 Inv-loop μ-loop
-cast-cds-2 c = search needs
-
-slice-write-cds-2 : tie.Need-slice-write-cds-2 Inv-loop μ-loop
-slice-write-cds-2 c = search needs
-
-add-i : tie.Need-add-i Inv-loop μ-loop
-add-i c = search needs
-
-loop-less : tie.Need-loop-less Inv-loop μ-loop
-loop-less c = search needs
 
 loop-again : tie.Need-loop-again Inv-loop μ-loop
 loop-again c =
@@ -127,23 +79,23 @@ pass-slave-spec =
     (tie.spec
     Inv-loop
     μ-loop
-    new-requires
+    (λ c κs. search needs)
     loop-holds
-    shared-slice-read-master
-    slice-read-far
-    silent-requires
-    cast-cds
-    slice-write-cds
-    heard-requires
-    address-requires
-    shared-slice-read-cds
-    slice-read-t25
-    step-requires
-    slice-write-registers
-    cast-cds-2
-    slice-write-cds-2
-    add-i
-    loop-less
+    (λ c. search needs)
+    (λ c. search needs)
+    (λ c κs. search needs)
+    (λ c. search needs)
+    (λ c. search needs)
+    (λ c κs. search needs)
+    (λ c κs. search needs)
+    (λ c. search needs)
+    (λ c. search needs)
+    (λ c κs. search needs)
+    (λ c. search needs)
+    (λ c. search needs)
+    (λ c. search needs)
+    (λ c. search needs)
+    (λ c. search needs)
     loop-again
     same-length
     same-length-2

@@ -6,18 +6,6 @@ use Rattle.run.specs.Run.{refusals}
 use Rattle.run.proofs.refusal.Statement.{statement}
 use Rattle.run.proofs.refusal.Tie as tie
 
-mul-if2 : tie.Need-mul-if2
-mul-if2 c = search needs
-
-mul-if3 : tie.Need-mul-if3
-mul-if3 c = search needs
-
-none-above-requires : tie.Need-none-above-requires
-none-above-requires c κs = search needs
-
-wrong-row-requires : tie.Need-wrong-row-requires
-wrong-row-requires c κs = search needs
-
 returns : tie.Need-returns
 unfolding refusals first
 returns c = search cases
@@ -42,10 +30,10 @@ pub refusal-spec : {M : Type 1} → statement M
 refusal-spec =
     tie.close
     (tie.spec
-    mul-if2
-    mul-if3
-    none-above-requires
-    wrong-row-requires
+    (λ c. search needs)
+    (λ c. search needs)
+    (λ c κs. search needs)
+    (λ c κs. search needs)
     returns
     returns-2
     returns-3

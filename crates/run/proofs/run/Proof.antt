@@ -5,9 +5,6 @@ use Rattle.run.proofs.Ends.{held, same-rows, ran-refused, ran-made}
 use Rattle.run.proofs.run.Statement.{statement}
 use Rattle.run.proofs.run.Tie as tie
 
-refusal-requires : tie.Need-refusal-requires
-refusal-requires c κs = search needs
-
 returns : tie.Need-returns
 returns c = ran-refused _ _ _ _ _ _ (c .before .refusal .ensures) (c .if1 .taken)
 
@@ -20,12 +17,6 @@ answer-row-requires c κs =
       same-rows (a .slaves) (a .registers .now) (a .rights .now) (a .cdm .now) (a .cds .now) e,
     )
 
-same-length : tie.Need-same-length
-same-length c = search needs
-
-same-length-2 : tie.Need-same-length-2
-same-length-2 c = search needs
-
 returns-2 : tie.Need-returns-2
 returns-2 c =
     let row = c .before .before .before .before .answer-row in
@@ -36,4 +27,4 @@ returns-2 c =
 pub run-spec : {M : Type 1} → statement M
 run-spec =
     tie.close
-    (tie.spec refusal-requires returns answer-row-requires same-length same-length-2 returns-2)
+    (tie.spec (λ c κs. search needs) returns answer-row-requires (λ c. search needs) (λ c. search needs) returns-2)

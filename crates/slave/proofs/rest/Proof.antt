@@ -4,15 +4,6 @@ use Rattle.slave.proofs.Turns.{quiet}
 use Rattle.slave.proofs.rest.Statement.{statement}
 use Rattle.slave.proofs.rest.Tie as tie
 
-begun-requires : tie.Need-begun-requires
-begun-requires c κs = search needs
-
-said-requires : tie.Need-said-requires
-said-requires c κs = search needs
-
-said-requires-2 : tie.Need-said-requires-2
-said-requires-2 c κs = search needs
-
 returns : tie.Need-returns
 returns c = quiet (c .said .ensures) (λ k s. rw (c .before .before .if1 .taken, c .before .begun .ensures))
 
@@ -20,4 +11,4 @@ returns-2 : tie.Need-returns-2
 returns-2 c = quiet (c .said2 .ensures) (λ k s. rw (c .before .if1 .left))
 
 pub rest-spec : {M : Type 1} → statement M
-rest-spec = tie.close (tie.spec begun-requires said-requires said-requires-2 returns returns-2)
+rest-spec = tie.close (tie.spec (λ c κs. search needs) (λ c κs. search needs) (λ c κs. search needs) returns returns-2)

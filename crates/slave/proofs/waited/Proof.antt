@@ -7,9 +7,6 @@ use Rattle.slave.proofs.Silence.{timed-anew}
 use Rattle.slave.proofs.waited.Statement.{statement}
 use Rattle.slave.proofs.waited.Tie as tie
 
-counted-requires : tie.Need-counted-requires
-counted-requires c κs = search needs
-
 returns : tie.Need-returns
 returns c =
     let slave = c .before .before .before .args .slave in
@@ -21,4 +18,4 @@ returns-2 : tie.Need-returns-2
 returns-2 c = rw (timer-out _ _ (c .before .counted .ensures) (c .if1 .left))
 
 pub waited-spec : {M : Type 1} → statement M
-waited-spec = tie.close (tie.spec counted-requires returns returns-2)
+waited-spec = tie.close (tie.spec (λ c κs. search needs) returns returns-2)

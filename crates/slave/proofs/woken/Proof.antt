@@ -3,9 +3,6 @@ use borrow.Author.Needs.{needs}
 use Rattle.slave.proofs.woken.Statement.{statement}
 use Rattle.slave.proofs.woken.Tie as tie
 
-begun-requires : tie.Need-begun-requires
-begun-requires c κs = search needs
-
 returns : tie.Need-returns
 returns c = rw (c .before .if1 .taken) (c .begun .ensures)
 
@@ -13,4 +10,4 @@ returns-2 : tie.Need-returns-2
 returns-2 c = rw (c .if1 .left)
 
 pub woken-spec : {M : Type 1} → statement M
-woken-spec = tie.close (tie.spec begun-requires returns returns-2)
+woken-spec = tie.close (tie.spec (λ c κs. search needs) returns returns-2)

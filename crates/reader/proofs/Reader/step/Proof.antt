@@ -4,15 +4,6 @@ use Rattle.reader.proofs.Turns.{steps-on, steps-end}
 use Rattle.reader.proofs.Reader.step.Statement.{statement}
 use Rattle.reader.proofs.Reader.step.Tie as tie
 
-counted-requires : tie.Need-counted-requires
-counted-requires c κs = search needs
-
-goes-on-requires : tie.Need-goes-on-requires
-goes-on-requires c κs = search needs
-
-fourteenth-requires : tie.Need-fourteenth-requires
-fourteenth-requires c κs = search needs
-
 returns : tie.Need-returns
 returns c = steps-on _ _ _ _ (c .before .before .counted .ensures) (c .before .if1 .taken) (c .goes-on .ensures)
 
@@ -21,4 +12,4 @@ returns-2 c = steps-end _ _ _ _ (c .before .before .counted .ensures) (c .before
 
 pub step-spec : {M : Type 1} → statement M
 step-spec =
-    tie.close (tie.spec counted-requires goes-on-requires fourteenth-requires returns returns-2)
+    tie.close (tie.spec (λ c κs. search needs) (λ c κs. search needs) (λ c κs. search needs) returns returns-2)

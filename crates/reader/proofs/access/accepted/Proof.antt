@@ -6,21 +6,6 @@ use Rattle.reader.proofs.Turns.{looked}
 use Rattle.reader.proofs.access.accepted.Statement.{statement}
 use Rattle.reader.proofs.access.accepted.Tie as tie
 
-number-requires : tie.Need-number-requires
-number-requires c κs = search needs
-
-go-requires : tie.Need-go-requires
-go-requires c κs = search needs
-
-gives-requires : tie.Need-gives-requires
-gives-requires c κs = search needs
-
-both-requires : tie.Need-both-requires
-both-requires c κs = search needs
-
-gives-requires-2 : tie.Need-gives-requires-2
-gives-requires-2 c κs = search needs
-
 returns : tie.Need-returns
 returns c = looked (c .go .ensures) refl refl (search (w-accepted, needs))
 
@@ -34,11 +19,11 @@ pub accepted-spec : {M : Type 1} → statement M
 accepted-spec =
     tie.close
     (tie.spec
-    number-requires
-    go-requires
-    gives-requires
-    both-requires
-    gives-requires-2
+    (λ c κs. search needs)
+    (λ c κs. search needs)
+    (λ c κs. search needs)
+    (λ c κs. search needs)
+    (λ c κs. search needs)
     returns
     returns-2
     returns-3)

@@ -6,17 +6,8 @@ use Rattle.reader.proofs.Turns.{looked}
 use Rattle.reader.proofs.access.ask_r.Statement.{statement}
 use Rattle.reader.proofs.access.ask_r.Tie as tie
 
-number-requires : tie.Need-number-requires
-number-requires c κs = search needs
-
-number-requires-2 : tie.Need-number-requires-2
-number-requires-2 c κs = search needs
-
-go-requires : tie.Need-go-requires
-go-requires c κs = search needs
-
 returns : tie.Need-returns
 returns c = looked (c .go .ensures) refl refl (search (r-asked, needs))
 
 pub ask-r-spec : {M : Type 1} → statement M
-ask-r-spec = tie.close (tie.spec number-requires number-requires-2 go-requires returns)
+ask-r-spec = tie.close (tie.spec (λ c κs. search needs) (λ c κs. search needs) (λ c κs. search needs) returns)

@@ -6,15 +6,6 @@ use Rattle.reader.proofs.Turns.{looked}
 use Rattle.reader.proofs.access.ask_w.Statement.{statement}
 use Rattle.reader.proofs.access.ask_w.Tie as tie
 
-gives-requires : tie.Need-gives-requires
-gives-requires c κs = search needs
-
-accepted-requires : tie.Need-accepted-requires
-accepted-requires c κs = search needs
-
-unlocked-requires : tie.Need-unlocked-requires
-unlocked-requires c κs = search needs
-
 returns : tie.Need-returns
 returns c = looked (c .gives .ensures) refl refl (search (w-pair, needs))
 
@@ -27,4 +18,4 @@ returns-3 c = c .unlocked .ensures
 pub ask-w-spec : {M : Type 1} → statement M
 ask-w-spec =
     tie.close
-    (tie.spec gives-requires accepted-requires unlocked-requires returns returns-2 returns-3)
+    (tie.spec (λ c κs. search needs) (λ c κs. search needs) (λ c κs. search needs) returns returns-2 returns-3)

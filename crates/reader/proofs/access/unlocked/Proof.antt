@@ -6,15 +6,6 @@ use Rattle.reader.proofs.Turns.{looked}
 use Rattle.reader.proofs.access.unlocked.Statement.{statement}
 use Rattle.reader.proofs.access.unlocked.Tie as tie
 
-both-requires : tie.Need-both-requires
-both-requires c κs = search needs
-
-gives-requires : tie.Need-gives-requires
-gives-requires c κs = search needs
-
-gives-requires-2 : tie.Need-gives-requires-2
-gives-requires-2 c κs = search needs
-
 returns : tie.Need-returns
 returns c = looked (c .gives .ensures) refl refl (search (w-absent, needs))
 
@@ -23,4 +14,4 @@ returns-2 c = looked (c .gives2 .ensures) refl refl (search (w-unasked, needs))
 
 pub unlocked-spec : {M : Type 1} → statement M
 unlocked-spec =
-    tie.close (tie.spec both-requires gives-requires gives-requires-2 returns returns-2)
+    tie.close (tie.spec (λ c κs. search needs) (λ c κs. search needs) (λ c κs. search needs) returns returns-2)

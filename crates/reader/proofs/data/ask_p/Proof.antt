@@ -6,24 +6,6 @@ use Rattle.reader.proofs.Turns.{looked}
 use Rattle.reader.proofs.data.ask_p.Statement.{statement}
 use Rattle.reader.proofs.data.ask_p.Tie as tie
 
-gives-requires : tie.Need-gives-requires
-gives-requires c κs = search needs
-
-add-n : tie.Need-add-n
-add-n c = search needs
-
-add-n-2 : tie.Need-add-n-2
-add-n-2 c = search needs
-
-go-requires : tie.Need-go-requires
-go-requires c κs = search needs
-
-gives-requires-2 : tie.Need-gives-requires-2
-gives-requires-2 c κs = search needs
-
-gives-requires-3 : tie.Need-gives-requires-3
-gives-requires-3 c κs = search needs
-
 returns : tie.Need-returns
 returns c = looked (c .gives .ensures) refl refl (search (p-closed, needs))
 
@@ -40,12 +22,12 @@ pub ask-p-spec : {M : Type 1} → statement M
 ask-p-spec =
     tie.close
     (tie.spec
-    gives-requires
-    add-n
-    add-n-2
-    go-requires
-    gives-requires-2
-    gives-requires-3
+    (λ c κs. search needs)
+    (λ c. search needs)
+    (λ c. search needs)
+    (λ c κs. search needs)
+    (λ c κs. search needs)
+    (λ c κs. search needs)
     returns
     returns-2
     returns-3

@@ -6,18 +6,6 @@ use Rattle.reader.proofs.Turns.{looked}
 use Rattle.reader.proofs.data.byte_s.Statement.{statement}
 use Rattle.reader.proofs.data.byte_s.Tie as tie
 
-go-requires : tie.Need-go-requires
-go-requires c κs = search needs
-
-go-requires-2 : tie.Need-go-requires-2
-go-requires-2 c κs = search needs
-
-gives-requires : tie.Need-gives-requires
-gives-requires c κs = search needs
-
-go-requires-3 : tie.Need-go-requires-3
-go-requires-3 c κs = search needs
-
 returns : tie.Need-returns
 returns c = looked (c .go .ensures) refl refl (search (s-writes, needs))
 
@@ -34,10 +22,10 @@ pub byte-s-spec : {M : Type 1} → statement M
 byte-s-spec =
     tie.close
     (tie.spec
-    go-requires
-    go-requires-2
-    gives-requires
-    go-requires-3
+    (λ c κs. search needs)
+    (λ c κs. search needs)
+    (λ c κs. search needs)
+    (λ c κs. search needs)
     returns
     returns-2
     returns-3

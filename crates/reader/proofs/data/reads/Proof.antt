@@ -6,24 +6,6 @@ use Rattle.reader.proofs.Turns.{looked}
 use Rattle.reader.proofs.data.reads.Statement.{statement}
 use Rattle.reader.proofs.data.reads.Tie as tie
 
-pushed-requires : tie.Need-pushed-requires
-pushed-requires c κs = search needs
-
-byte-fits-requires : tie.Need-byte-fits-requires
-byte-fits-requires c κs = search needs
-
-gives-requires : tie.Need-gives-requires
-gives-requires c κs = search needs
-
-gives-requires-2 : tie.Need-gives-requires-2
-gives-requires-2 c κs = search needs
-
-sub-n : tie.Need-sub-n
-sub-n c = search needs
-
-go-requires : tie.Need-go-requires
-go-requires c κs = search needs
-
 returns : tie.Need-returns
 returns c = looked (c .gives .ensures) refl refl (search (read-good, needs))
 
@@ -37,12 +19,12 @@ pub reads-spec : {M : Type 1} → statement M
 reads-spec =
     tie.close
     (tie.spec
-    pushed-requires
-    byte-fits-requires
-    gives-requires
-    gives-requires-2
-    sub-n
-    go-requires
+    (λ c κs. search needs)
+    (λ c κs. search needs)
+    (λ c κs. search needs)
+    (λ c κs. search needs)
+    (λ c. search needs)
+    (λ c κs. search needs)
     returns
     returns-2
     returns-3)

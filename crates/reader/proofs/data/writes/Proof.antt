@@ -6,30 +6,6 @@ use Rattle.reader.proofs.Turns.{looked}
 use Rattle.reader.proofs.data.writes.Statement.{statement}
 use Rattle.reader.proofs.data.writes.Tie as tie
 
-pushed-requires : tie.Need-pushed-requires
-pushed-requires c κs = search needs
-
-echoed-requires : tie.Need-echoed-requires
-echoed-requires c κs = search needs
-
-byte-fits-requires : tie.Need-byte-fits-requires
-byte-fits-requires c κs = search needs
-
-gives-requires : tie.Need-gives-requires
-gives-requires c κs = search needs
-
-gives-requires-2 : tie.Need-gives-requires-2
-gives-requires-2 c κs = search needs
-
-gives-requires-3 : tie.Need-gives-requires-3
-gives-requires-3 c κs = search needs
-
-sub-n : tie.Need-sub-n
-sub-n c = search needs
-
-go-requires : tie.Need-go-requires
-go-requires c κs = search needs
-
 returns : tie.Need-returns
 returns c = looked (c .gives .ensures) refl refl (search (write-good, needs))
 
@@ -46,14 +22,14 @@ pub writes-spec : {M : Type 1} → statement M
 writes-spec =
     tie.close
     (tie.spec
-    pushed-requires
-    echoed-requires
-    byte-fits-requires
-    gives-requires
-    gives-requires-2
-    gives-requires-3
-    sub-n
-    go-requires
+    (λ c κs. search needs)
+    (λ c κs. search needs)
+    (λ c κs. search needs)
+    (λ c κs. search needs)
+    (λ c κs. search needs)
+    (λ c κs. search needs)
+    (λ c. search needs)
+    (λ c κs. search needs)
     returns
     returns-2
     returns-3

@@ -6,27 +6,6 @@ use Rattle.reader.proofs.Turns.{looked}
 use Rattle.reader.proofs.header.head.Statement.{statement}
 use Rattle.reader.proofs.header.head.Tie as tie
 
-pushed-requires : tie.Need-pushed-requires
-pushed-requires c κs = search needs
-
-add-n : tie.Need-add-n
-add-n c = search needs
-
-go-requires : tie.Need-go-requires
-go-requires c κs = search needs
-
-header-fits-requires : tie.Need-header-fits-requires
-header-fits-requires c κs = search needs
-
-go-requires-2 : tie.Need-go-requires-2
-go-requires-2 c κs = search needs
-
-gives-requires : tie.Need-gives-requires
-gives-requires c κs = search needs
-
-gives-requires-2 : tie.Need-gives-requires-2
-gives-requires-2 c κs = search needs
-
 returns : tie.Need-returns
 returns c = looked (c .go .ensures) refl refl (search (head-on, needs))
 
@@ -43,13 +22,13 @@ pub head-spec : {M : Type 1} → statement M
 head-spec =
     tie.close
     (tie.spec
-    pushed-requires
-    add-n
-    go-requires
-    header-fits-requires
-    go-requires-2
-    gives-requires
-    gives-requires-2
+    (λ c κs. search needs)
+    (λ c. search needs)
+    (λ c κs. search needs)
+    (λ c κs. search needs)
+    (λ c κs. search needs)
+    (λ c κs. search needs)
+    (λ c κs. search needs)
     returns
     returns-2
     returns-3

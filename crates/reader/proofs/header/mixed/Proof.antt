@@ -6,18 +6,6 @@ use Rattle.reader.proofs.Turns.{looked}
 use Rattle.reader.proofs.header.mixed.Statement.{statement}
 use Rattle.reader.proofs.header.mixed.Tie as tie
 
-pushed-requires : tie.Need-pushed-requires
-pushed-requires c κs = search needs
-
-add-n : tie.Need-add-n
-add-n c = search needs
-
-go-requires : tie.Need-go-requires
-go-requires c κs = search needs
-
-gives-requires : tie.Need-gives-requires
-gives-requires c κs = search needs
-
 returns : tie.Need-returns
 returns c = looked (c .go .ensures) refl refl (search (mixed-on, needs))
 
@@ -26,4 +14,4 @@ returns-2 c = looked (c .gives .ensures) refl refl (search (mixed-odd, needs))
 
 pub mixed-spec : {M : Type 1} → statement M
 mixed-spec =
-    tie.close (tie.spec pushed-requires add-n go-requires gives-requires returns returns-2)
+    tie.close (tie.spec (λ c κs. search needs) (λ c. search needs) (λ c κs. search needs) (λ c κs. search needs) returns returns-2)

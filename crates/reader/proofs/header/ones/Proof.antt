@@ -6,33 +6,6 @@ use Rattle.reader.proofs.Turns.{looked}
 use Rattle.reader.proofs.header.ones.Statement.{statement}
 use Rattle.reader.proofs.header.ones.Tie as tie
 
-pushed-requires : tie.Need-pushed-requires
-pushed-requires c κs = search needs
-
-add-n : tie.Need-add-n
-add-n c = search needs
-
-go-requires : tie.Need-go-requires
-go-requires c κs = search needs
-
-add-n-2 : tie.Need-add-n-2
-add-n-2 c = search needs
-
-go-requires-2 : tie.Need-go-requires-2
-go-requires-2 c κs = search needs
-
-add-n-3 : tie.Need-add-n-3
-add-n-3 c = search needs
-
-go-requires-3 : tie.Need-go-requires-3
-go-requires-3 c κs = search needs
-
-gives-requires : tie.Need-gives-requires
-gives-requires c κs = search needs
-
-gives-requires-2 : tie.Need-gives-requires-2
-gives-requires-2 c κs = search needs
-
 returns : tie.Need-returns
 returns c = looked (c .go .ensures) refl refl (search (ones-before, needs))
 
@@ -52,15 +25,15 @@ pub ones-spec : {M : Type 1} → statement M
 ones-spec =
     tie.close
     (tie.spec
-    pushed-requires
-    add-n
-    go-requires
-    add-n-2
-    go-requires-2
-    add-n-3
-    go-requires-3
-    gives-requires
-    gives-requires-2
+    (λ c κs. search needs)
+    (λ c. search needs)
+    (λ c κs. search needs)
+    (λ c. search needs)
+    (λ c κs. search needs)
+    (λ c. search needs)
+    (λ c κs. search needs)
+    (λ c κs. search needs)
+    (λ c κs. search needs)
     returns
     returns-2
     returns-3

@@ -6,24 +6,6 @@ use Rattle.reader.proofs.Turns.{looked}
 use Rattle.reader.proofs.header.upto.Statement.{statement}
 use Rattle.reader.proofs.header.upto.Tie as tie
 
-pushed-requires : tie.Need-pushed-requires
-pushed-requires c κs = search needs
-
-add-n : tie.Need-add-n
-add-n c = search needs
-
-go-requires : tie.Need-go-requires
-go-requires c κs = search needs
-
-go-requires-2 : tie.Need-go-requires-2
-go-requires-2 c κs = search needs
-
-gives-requires : tie.Need-gives-requires
-gives-requires c κs = search needs
-
-gives-requires-2 : tie.Need-gives-requires-2
-gives-requires-2 c κs = search needs
-
 returns : tie.Need-returns
 returns c = looked (c .go .ensures) refl refl (search (upto-mixed, needs))
 
@@ -40,12 +22,12 @@ pub upto-spec : {M : Type 1} → statement M
 upto-spec =
     tie.close
     (tie.spec
-    pushed-requires
-    add-n
-    go-requires
-    go-requires-2
-    gives-requires
-    gives-requires-2
+    (λ c κs. search needs)
+    (λ c. search needs)
+    (λ c κs. search needs)
+    (λ c κs. search needs)
+    (λ c κs. search needs)
+    (λ c κs. search needs)
     returns
     returns-2
     returns-3

@@ -4,11 +4,8 @@ use Rattle.reader.proofs.Accesses.{number-is}
 use Rattle.reader.proofs.made.number.Statement.{statement}
 use Rattle.reader.proofs.made.number.Tie as tie
 
-cast-result : tie.Need-cast-result
-cast-result c = search needs
-
 returns : tie.Need-returns
 returns c = number-is (c .args .bit)
 
 pub number-spec : {M : Type 1} → statement M
-number-spec = tie.close (tie.spec cast-result returns)
+number-spec = tie.close (tie.spec (λ c. search needs) returns)

@@ -5,15 +5,6 @@ use Rattle.slave.proofs.Silence.{rest-hears, other-hears}
 use Rattle.slave.proofs.Slave.heard.Statement.{statement}
 use Rattle.slave.proofs.Slave.heard.Tie as tie
 
-enum-told : tie.Need-enum-told
-enum-told c = search needs
-
-woken-requires : tie.Need-woken-requires
-woken-requires c κs = search needs
-
-waited-requires : tie.Need-waited-requires
-waited-requires c κs = search needs
-
 returns : tie.Need-returns
 returns c =
     let at-rest = c .before .enum-told .given .1 in
@@ -25,4 +16,4 @@ returns-2 c =
     c .waited .ensures ∙ other-hears (a .self .phase) (a .self .zeros) (a .self .body) (a .master) (c .before .match .keys2)
 
 pub heard-spec : {M : Type 1} → statement M
-heard-spec = tie.close (tie.spec enum-told woken-requires waited-requires returns returns-2)
+heard-spec = tie.close (tie.spec (λ c. search needs) (λ c κs. search needs) (λ c κs. search needs) returns returns-2)

@@ -4,15 +4,6 @@ use Rattle.slave.proofs.Silence.{may-speak}
 use Rattle.slave.proofs.Slave.silent.Statement.{statement}
 use Rattle.slave.proofs.Slave.silent.Tie as tie
 
-enum-told : tie.Need-enum-told
-enum-told c = search needs
-
-enum-told-2 : tie.Need-enum-told-2
-enum-told-2 c = search needs
-
-enum-told-3 : tie.Need-enum-told-3
-enum-told-3 c = search needs
-
 returns : tie.Need-returns
 returns c = rw (c .enum-told .given .1)
 
@@ -27,4 +18,4 @@ returns-4 c = let a = c .before .args in may-speak (a .self .phase) (a .self .ze
 
 pub silent-spec : {M : Type 1} → statement M
 silent-spec =
-    tie.close (tie.spec enum-told enum-told-2 enum-told-3 returns returns-2 returns-3 returns-4)
+    tie.close (tie.spec (λ c. search needs) (λ c. search needs) (λ c. search needs) returns returns-2 returns-3 returns-4)

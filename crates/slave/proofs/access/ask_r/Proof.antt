@@ -6,12 +6,9 @@ use Rattle.slave.proofs.Turns.{quiet}
 use Rattle.slave.proofs.access.ask_r.Statement.{statement}
 use Rattle.slave.proofs.access.ask_r.Tie as tie
 
-said-requires : tie.Need-said-requires
-said-requires c κs = search needs
-
 returns : tie.Need-returns
 unfolding speak
 returns c = quiet (c .said .ensures) (λ k s. refl)
 
 pub ask-r-spec : {M : Type 1} → statement M
-ask-r-spec = tie.close (tie.spec said-requires returns)
+ask-r-spec = tie.close (tie.spec (λ c κs. search needs) returns)

@@ -6,18 +6,6 @@ use Rattle.slave.proofs.Turns.{spoke}
 use Rattle.slave.proofs.access.ask_w.Statement.{statement}
 use Rattle.slave.proofs.access.ask_w.Tie as tie
 
-said-requires : tie.Need-said-requires
-said-requires c κs = search needs
-
-allowed-requires : tie.Need-allowed-requires
-allowed-requires c κs = search needs
-
-said-requires-2 : tie.Need-said-requires-2
-said-requires-2 c κs = search needs
-
-said-requires-3 : tie.Need-said-requires-3
-said-requires-3 c κs = search needs
-
 returns : tie.Need-returns
 returns c = spoke (c .said .ensures) refl refl (λ k s. ask-alike k _ _ _ _ (c .before .before .if1 .taken))
 
@@ -37,10 +25,10 @@ pub ask-w-spec : {M : Type 1} → statement M
 ask-w-spec =
     tie.close
     (tie.spec
-    said-requires
-    allowed-requires
-    said-requires-2
-    said-requires-3
+    (λ c κs. search needs)
+    (λ c κs. search needs)
+    (λ c κs. search needs)
+    (λ c κs. search needs)
     returns
     returns-2
     returns-3)

@@ -6,17 +6,8 @@ use Rattle.slave.proofs.Turns.{spoke}
 use Rattle.slave.proofs.data.ask_p.Statement.{statement}
 use Rattle.slave.proofs.data.ask_p.Tie as tie
 
-goes-on-requires : tie.Need-goes-on-requires
-goes-on-requires c κs = search needs
-
 add-n : tie.Need-add-n
 add-n c = let few = on-few _ _ (sym (c .before .before .goes-on .ensures) ∙ c .before .if1 .taken) in search needs
-
-said-requires : tie.Need-said-requires
-said-requires c κs = search needs
-
-said-requires-2 : tie.Need-said-requires-2
-said-requires-2 c κs = search needs
 
 returns : tie.Need-returns
 returns c =
@@ -32,4 +23,4 @@ returns-2 c =
 
 pub ask-p-spec : {M : Type 1} → statement M
 ask-p-spec =
-    tie.close (tie.spec goes-on-requires add-n said-requires said-requires-2 returns returns-2)
+    tie.close (tie.spec (λ c κs. search needs) add-n (λ c κs. search needs) (λ c κs. search needs) returns returns-2)

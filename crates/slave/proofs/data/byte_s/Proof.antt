@@ -6,18 +6,6 @@ use Rattle.slave.proofs.Turns.{spoke}
 use Rattle.slave.proofs.data.byte_s.Statement.{statement}
 use Rattle.slave.proofs.data.byte_s.Tie as tie
 
-said-requires : tie.Need-said-requires
-said-requires c κs = search needs
-
-checked-requires : tie.Need-checked-requires
-checked-requires c κs = search needs
-
-said-requires-2 : tie.Need-said-requires-2
-said-requires-2 c κs = search needs
-
-said-requires-3 : tie.Need-said-requires-3
-said-requires-3 c κs = search needs
-
 returns : tie.Need-returns
 returns c = spoke (c .said .ensures) refl refl (λ k s. search (byte-takes, needs))
 
@@ -31,10 +19,10 @@ pub byte-s-spec : {M : Type 1} → statement M
 byte-s-spec =
     tie.close
     (tie.spec
-    said-requires
-    checked-requires
-    said-requires-2
-    said-requires-3
+    (λ c κs. search needs)
+    (λ c κs. search needs)
+    (λ c κs. search needs)
+    (λ c κs. search needs)
     returns
     returns-2
     returns-3)

@@ -4,9 +4,6 @@ use Rattle.slave.proofs.Accesses.{on-bad, on-past, on-many, on-right}
 use Rattle.slave.proofs.data.goes_on.Statement.{statement}
 use Rattle.slave.proofs.data.goes_on.Tie as tie
 
-allowed-requires : tie.Need-allowed-requires
-allowed-requires c κs = search needs
-
 returns : tie.Need-returns
 returns c = search (on-past, needs)
 
@@ -20,4 +17,4 @@ returns-4 : tie.Need-returns-4
 returns-4 c = search (on-bad, needs)
 
 pub goes-on-spec : {M : Type 1} → statement M
-goes-on-spec = tie.close (tie.spec allowed-requires returns returns-2 returns-3 returns-4)
+goes-on-spec = tie.close (tie.spec (λ c κs. search needs) returns returns-2 returns-3 returns-4)

@@ -6,21 +6,6 @@ use Rattle.slave.proofs.Turns.{spoke}
 use Rattle.slave.proofs.data.sends.Statement.{statement}
 use Rattle.slave.proofs.data.sends.Tie as tie
 
-shr-sent : tie.Need-shr-sent
-shr-sent c = search needs
-
-next-address-requires : tie.Need-next-address-requires
-next-address-requires c κs = search needs
-
-said-requires : tie.Need-said-requires
-said-requires c κs = search needs
-
-sub-n : tie.Need-sub-n
-sub-n c = search needs
-
-said-requires-2 : tie.Need-said-requires-2
-said-requires-2 c κs = search needs
-
 returns : tie.Need-returns
 returns c =
     let a = c .before .before .before .before .before .args in
@@ -36,4 +21,4 @@ returns-2 c =
 pub sends-spec : {M : Type 1} → statement M
 sends-spec =
     tie.close
-    (tie.spec shr-sent next-address-requires said-requires sub-n said-requires-2 returns returns-2)
+    (tie.spec (λ c. search needs) (λ c κs. search needs) (λ c κs. search needs) (λ c. search needs) (λ c κs. search needs) returns returns-2)

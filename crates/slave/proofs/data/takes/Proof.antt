@@ -6,30 +6,6 @@ use Rattle.slave.proofs.Turns.{spoke, stores}
 use Rattle.slave.proofs.data.takes.Statement.{statement}
 use Rattle.slave.proofs.data.takes.Tie as tie
 
-pushed-requires : tie.Need-pushed-requires
-pushed-requires c κs = search needs
-
-sub-n : tie.Need-sub-n
-sub-n c = search needs
-
-said-requires : tie.Need-said-requires
-said-requires c κs = search needs
-
-next-address-requires : tie.Need-next-address-requires
-next-address-requires c κs = search needs
-
-byte-fits-requires : tie.Need-byte-fits-requires
-byte-fits-requires c κs = search needs
-
-cast-said : tie.Need-cast-said
-cast-said c = search needs
-
-said-requires-2 : tie.Need-said-requires-2
-said-requires-2 c κs = search needs
-
-said-requires-3 : tie.Need-said-requires-3
-said-requires-3 c κs = search needs
-
 returns : tie.Need-returns
 returns c =
     let p = c .before .before in
@@ -63,14 +39,14 @@ pub takes-spec : {M : Type 1} → statement M
 takes-spec =
     tie.close
     (tie.spec
-    pushed-requires
-    sub-n
-    said-requires
-    next-address-requires
-    byte-fits-requires
-    cast-said
-    said-requires-2
-    said-requires-3
+    (λ c κs. search needs)
+    (λ c. search needs)
+    (λ c κs. search needs)
+    (λ c κs. search needs)
+    (λ c κs. search needs)
+    (λ c. search needs)
+    (λ c κs. search needs)
+    (λ c κs. search needs)
     returns
     returns-2
     returns-3)

@@ -4,9 +4,6 @@ use Rattle.slave.proofs.Heads.{called-wrong, called-command, called-acc
 use Rattle.slave.proofs.header.called.Statement.{statement}
 use Rattle.slave.proofs.header.called.Tie as tie
 
-header-fits-requires : tie.Need-header-fits-requires
-header-fits-requires c κs = search needs
-
 returns : tie.Need-returns
 returns c = search (called-access, needs)
 
@@ -17,4 +14,4 @@ returns-3 : tie.Need-returns-3
 returns-3 c = search (called-wrong, needs)
 
 pub called-spec : {M : Type 1} → statement M
-called-spec = tie.close (tie.spec header-fits-requires returns returns-2 returns-3)
+called-spec = tie.close (tie.spec (λ c κs. search needs) returns returns-2 returns-3)
