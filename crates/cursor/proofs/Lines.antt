@@ -11,7 +11,7 @@ use lib.Dec.{eqb}
 use lib.ListN.{length, take, drop, getD, length-drop, length-map, drop-of-length-le}
 use lib.Seq.{take-all, drop-cons, drop-drop}
 use Rattle.protocol.specs.Text.{rowsHeader, exactly, bit, has, headerForm, columnForm, begins}
-use Rattle.protocol.specs.Fault.{formAt, stop, isBreach}
+use Rattle.protocol.specs.Fault.{formAt, stop, isFault}
 use Rattle.laws.proofs.Every.{tested}
 use Rattle.protocol.proofs.Text.{four, begins-long}
 use Rattle.protocol.proofs.Fault.{stop-low, stop-again, header-forms, column-forms, through}
@@ -118,10 +118,10 @@ digit-form (suc (suc (suc zero))) h k = absurd (k refl)
 digit-form (suc (suc (suc (suc i)))) h k = refl
 
 -- Below the header a text may end at a line's start.
-pub end-fault : (at : ℕ) → 8 ≤ at → not (eqb (at % 4) 0) ≡ isBreach at at
+pub end-fault : (at : ℕ) → 8 ≤ at → not (eqb (at % 4) 0) ≡ isFault at at
 end-fault at h =
     let same : (at - 8) % 4 ≡ at % 4 = omega arith in
     rw (eq-eqb at at refl, le-ltb at 8 h, same, ne-eqb at 0 (omega arith), and-true)
 
-pub not-end : (at end : ℕ) → (at ≡ end → ⊥) → true ≡ isBreach at end
+pub not-end : (at end : ℕ) → (at ≡ end → ⊥) → true ≡ isFault at end
 not-end at end h = rw (ne-eqb at end h)

@@ -4,7 +4,7 @@ ghost use mathlib.Core.List.{map, _∷_, []};
 ghost use Prim.Native.Nat.{_+_, _≤_, _<_};
 ghost use lib.ListN.{length, drop};
 ghost use Rattle.protocol.specs.Text.{Form, has, columnForm, begins};
-ghost use Rattle.protocol.specs.Fault.{lineAt, formAt, stop, isBreach};
+ghost use Rattle.protocol.specs.Fault.{lineAt, formAt, stop, isFault};
 
 // Text: "header `cdm` TAB `cds` LF, then digit TAB digit LF for each column".
 const NAMES: [u8; HEADER] = *b"cdm\tcds\n";
@@ -194,7 +194,7 @@ pub fn line_at(place: usize) -> usize
 
 // Whether a stop at a place of a text with this end is a fault.
 pub fn is_fault(at: usize, end: usize) -> bool
-    ensures { λ r. ⌜ r ≡ isBreach at end ⌝ }
+    ensures { λ r. ⌜ r ≡ isFault at end ⌝ }
 {
     if at != end {
         return true;

@@ -12,7 +12,7 @@ use lib.Dec.{ltb, eqb}
 use lib.ListN.{length, drop, getD, length-drop}
 use Rattle.protocol.specs.Entries.{bytes}
 use Rattle.protocol.specs.Text.{Form, bit, has, headerForm, columnForm, begins, fault, firstBad, badLine}
-use Rattle.protocol.specs.Fault.{lineAt, byteAt, formAt, stop, isBreach, faultAt, textFault, faultLine}
+use Rattle.protocol.specs.Fault.{lineAt, byteAt, formAt, stop, isFault, faultAt, textFault, faultLine}
 use Rattle.laws.proofs.Every.{either, tested, both}
 use Rattle.protocol.proofs.Text.{begins-long}
 
@@ -104,12 +104,12 @@ within (f ∷ form) p fs (b ∷ text) h =
     (λ q. rw q (omega arith)))
 
 -- No text may end in its header, or inside a column's line, whose number its places have.
-pub in-header : (s end : ℕ) → s < 8 → isBreach s end ≡ true
+pub in-header : (s end : ℕ) → s < 8 → isFault s end ≡ true
 in-header s end h =
     tested (eqb s end) (λ e. rw (e, lt-ltb s 8 h) (tested (eqb s 0) (λ q. rw q) (λ q. rw q))) (λ e. rw e)
 
 module _ (n s end : ℕ) (after : 8 + 4 * n ≤ s) (before : s < 12 + 4 * n) where
-  in-line : 8 + 4 * n < end → isBreach s end ≡ true
+  in-line : 8 + 4 * n < end → isFault s end ≡ true
   in-line h =
       tested (eqb s end)
       (λ e. let last = eqb-true s end e in rw (e, le-ltb s 8 (omega arith), ne-eqb ((s - 8) % 4) 0 (omega arith)))
@@ -193,11 +193,11 @@ fault-inside at end h = rw (ne-eqb at end (omega arith))
 
 -- A text's fault, or none, by its stop.
 module _ (text : List ℕ) (at : ℕ) (e : at ≡ stop 0 text) where
-  pub fault-there : isBreach at (length text) ≡ true → textFault text ≡ some at
+  pub fault-there : isFault at (length text) ≡ true → textFault text ≡ some at
   unfolding textFault faultAt
   fault-there q = rw (← e, q)
 
-  pub fault-none : isBreach at (length text) ≡ false → textFault text ≡ none
+  pub fault-none : isFault at (length text) ≡ false → textFault text ≡ none
   unfolding textFault faultAt
   fault-none q = rw (← e, q)
 
@@ -207,7 +207,7 @@ unfolding textFault faultAt
 line-low text =
     let s = stop 0 text in
     let low = stop-low 0 text .1 in
-    tested (isBreach s (length text))
+    tested (isFault s (length text))
     (λ q. rw q (tested (ltb s 8) (λ r. rw r (omega arith)) (λ r. rw r (omega (arith, ltb-false s 8 r)))))
     (λ q. rw q (omega arith))
 

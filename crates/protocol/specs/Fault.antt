@@ -37,12 +37,12 @@ abbrev pub mayEnd : (place : ℕ) → Bool
 mayEnd p = eqb (byteAt p) 0 && not (eqb p 0)
 
 -- A stop is a fault, unless it is the end and a text may end there.
-abbrev pub isBreach : (at end : ℕ) → Bool
-isBreach p end = not (eqb p end && mayEnd p)
+abbrev pub isFault : (at end : ℕ) → Bool
+isFault p end = not (eqb p end && mayEnd p)
 
 -- Whatever else is to be told of a fault is told here: today its place alone.
 unfoldable pub faultAt : (at end : ℕ) → Option ℕ
-faultAt p end = cond (isBreach p end) (some p) none
+faultAt p end = cond (isFault p end) (some p) none
 
 -- Refusal 11: "text not of the form above": the first place where it is not.
 unfoldable pub textFault : (text : List ℕ) → Option ℕ

@@ -7,13 +7,13 @@ use Rattle.job.specs.declared.Outcome.{Outcome}
 use Rattle.job.proofs.Refusals.{ended-unique}
 use Rattle.laws.proofs.Unique.{one-result}
 use Rattle.read.specs.Read.{Listed}
-use Rattle.read.specs.Parts.{Reached, standing}
+use Rattle.read.specs.Parts.{Reached, reachedBy}
 use Rattle.read.specs.declared.Reading.{Reading}
 
 read-unique : {cdm cds : List ℕ} {k : ℕ} {out : List ℕ} {a b : Outcome} {after other : List ℕ} → Listed cdm cds k out a after
     → Listed cdm cds k out b other → (a ≡ b) × (after ≡ other)
 read-unique p q = let same = ended-unique (p .ends) (q .ends) in (same .0, cc)
 
-scan-on-unique : (a b : Reading) {after other : List ℕ} {promised : Reached} → standing a after ≡ promised → standing b other ≡ promised
-    → standing a after ≡ standing b other
+scan-on-unique : (a b : Reading) {after other : List ℕ} {promised : Reached} → reachedBy a after ≡ promised → reachedBy b other ≡ promised
+    → reachedBy a after ≡ reachedBy b other
 scan-on-unique a b p q = one-result p q

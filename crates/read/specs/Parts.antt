@@ -68,6 +68,6 @@ reached s p n out cs =
     record { state = after s cs; place = placeAfter s p cs; count = n + length (entries s p cs); buffer = keptAll out n (entries s p cs) }
 
 -- .. and of the code.
-abbrev pub standing : Reading → (out : List ℕ) → Reached
-standing r out =
+abbrev pub reachedBy : Reading → (out : List ℕ) → Reached
+reachedBy r out =
     record { state = stateOf (r .reader); place = placeOf (r .place); count = r .count; buffer = out }

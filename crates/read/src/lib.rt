@@ -13,7 +13,7 @@ ghost use Rattle.protocol.specs.Entries.{onward};
 ghost use Rattle.job.specs.Refusals.{first, given};
 ghost use Rattle.reader.specs.Code.{stateOf, small};
 ghost use Rattle.read.specs.Read.{rowsRefusals, listOf, Listed};
-ghost use Rattle.read.specs.Parts.{Rows, placeOf, inRow, bytesFor, roomOf, kept, keptAll, reached, standing};
+ghost use Rattle.read.specs.Parts.{Rows, placeOf, inRow, bytesFor, roomOf, kept, keptAll, reached, reachedBy};
 use job::Detail;
 use job::ENTRY_BYTES;
 use job::Outcome;
@@ -99,7 +99,7 @@ fn scan(cdm: &[u8], cds: &[u8], opening: usize, out: &mut [u8]) -> usize
 // caller of step, which is inlined here.
 pub fn scan_on(start: Reading, cdm: &[u8], cds: &[u8], out: &mut [u8]) -> Reading
     requires { ⌜ (length (now cdm) ≡ length (now cds)) × (start .place .column + length (now cdm) ≤ columnLimit) × (start .count ≤ start .place .column) ⌝ }
-    ensures { λ r. ⌜ standing r (now (out .exit)) ≡ reached (stateOf (start .reader)) (placeOf (start .place)) (start .count) (now (out .entry)) (columns (rowOf (now (cdm .entry))) (rowOf (now (cds .entry)))) ⌝ }
+    ensures { λ r. ⌜ reachedBy r (now (out .exit)) ≡ reached (stateOf (start .reader)) (placeOf (start .place)) (start .count) (now (out .entry)) (columns (rowOf (now (cdm .entry))) (rowOf (now (cds .entry)))) ⌝ }
 {
     let mut reader = start.reader;
     let mut place = start.place;

@@ -11,7 +11,7 @@ use lib.ListN.{length, take, drop, getD}
 use Rattle.protocol.specs.Limits.{columnLimit}
 use Rattle.protocol.specs.Layout.{current, entryBytes, listBytes, entriesIn, isList}
 use Rattle.protocol.specs.Text.{rowIn, cdmOf, cdsOf, listText}
-use Rattle.protocol.specs.Fault.{lineAt, isBreach, faultAt, textFault}
+use Rattle.protocol.specs.Fault.{lineAt, isFault, faultAt, textFault}
 use Rattle.laws.proofs.Every.{tested}
 use Rattle.protocol.proofs.Codec.{length-list, entries-back, bytes-list}
 use Rattle.job.specs.Bytes.{noneAbove, areBits}
@@ -60,11 +60,11 @@ module _ (text : List ℕ) (k : ℕ) where
     reports-rows h = rw (good, le-ltb columnLimit (length (cdmOf text)) h)
 
 module _ (at end : ℕ) where
-  pub long-none : isBreach at end ≡ false → longReport (faultAt at end) ≡ refusedText (refusal 5 alone)
+  pub long-none : isFault at end ≡ false → longReport (faultAt at end) ≡ refusedText (refusal 5 alone)
   unfolding longReport faultAt
   long-none q = rw q
 
-  pub long-bad : isBreach at end ≡ true → (line : ℕ) → line ≡ lineAt at → longReport (faultAt at end) ≡ refusedText (refusal 11 (on-line line))
+  pub long-bad : isFault at end ≡ true → (line : ℕ) → line ≡ lineAt at → longReport (faultAt at end) ≡ refusedText (refusal 11 (on-line line))
   unfolding longReport faultAt
   long-bad q line e = rw (q, e)
 
