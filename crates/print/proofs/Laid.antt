@@ -4,7 +4,6 @@ use mathlib.Core.List.{List, [], _∷_, _++_}
 use Prim.Native.Nat.{ℕ, _+_, _≤_, _<_}
 use native.Mathlib.Nat.{add-assoc}
 use native.Mathlib.Numerals.{add-one}
-use native.Mathlib.Omega.{arith}
 use lib.ListN.{length, length-append, drop, drop-of-length-le, getD, set}
 use lib.Seq.{sets, length-sets, drop-cons}
 use Rattle.job.proofs.Laid.{sets-append}
@@ -33,11 +32,6 @@ one-byte l at v = record { behind = refl; laid = refl }
 -- The buffer keeps its length.
 pub laid-length : {vs l l′ : List ℕ} {at r : ℕ} → Laid vs at l r l′ → length l′ ≡ length l
 laid-length {vs} {l} {l′} {at} {r} h = ap length (h .laid) ∙ length-sets l at vs
-
--- Room for a part behind what is laid, where there was room for both.
-pub room-behind : {done lent after : List ℕ} {at p : ℕ} → Laid done at lent p after → (part : List ℕ) → at + length (done ++ part) ≤ length lent
-    → p + length part ≤ length after
-room-behind {done} put part h = omega (arith, put .behind, laid-length put, length-append done part)
 
 -- The bytes that are left, laid from p on: one more, or none.
 module _ (out bytes : List ℕ) (p j : ℕ) where

@@ -5,8 +5,8 @@
 --
 --   CDM bit ──► Rest (is it the fourteenth zero? is it S?) ──► a turn of a phase of Slave, Reader or Account (Machine)
 --   0 ──► far slave ──► .. ──► near slave ──► CDS bit          Chain: every slave sees the CDM bit and its far neighbour's bit
---   (CDM, CDS) ──► Reader ──► perhaps an Entry                 the list, from two rows alone
---   (CDM, Memory of each slave) ──► Account ──► perhaps an Entry     the chain's own account, from no answer
+--   (CDM, CDS) ──► Reader ──► perhaps an Event                 at its Place an Entry of the list, from two rows alone
+--   (CDM, Memory of each slave) ──► Account ──► perhaps an Event     .. of the chain's own account, from no answer
 pub mod Limits
 pub mod Bits
 pub mod Rest

@@ -21,15 +21,15 @@ use reader::Event;
 use reader::Reader;
 
 // Where in the row a column stands.
-pub struct Place {
-    pub column: usize,
+struct Place {
+    column: usize,
 }
 
 // A reading under way: the reader, the place of the next column, and how many entries there were.
-pub struct Reading {
-    pub reader: Reader,
-    pub place: Place,
-    pub count: usize,
+struct Reading {
+    reader: Reader,
+    place: Place,
+    count: usize,
 }
 
 pub fn read(cdm: &[u8], cds: &[u8], opening: usize, out: &mut [u8]) -> Outcome
@@ -97,7 +97,7 @@ fn scan(cdm: &[u8], cds: &[u8], opening: usize, out: &mut [u8]) -> usize
 
 // A reading goes on over a part of the rows, from any state: it puts the entries while there is room, and counts on past it. The one
 // caller of step, which is inlined here.
-pub fn scan_on(start: Reading, cdm: &[u8], cds: &[u8], out: &mut [u8]) -> Reading
+fn scan_on(start: Reading, cdm: &[u8], cds: &[u8], out: &mut [u8]) -> Reading
     requires { ⌜ (length (now cdm) ≡ length (now cds)) × (start .place .column + length (now cdm) ≤ columnLimit) × (start .count ≤ start .place .column) ⌝ }
     ensures { λ r. ⌜ reachedBy r (now (out .exit)) ≡ reached (stateOf (start .reader)) (placeOf (start .place)) (start .count) (now (out .entry)) (columns (rowOf (now (cdm .entry))) (rowOf (now (cds .entry)))) ⌝ }
 {

@@ -36,7 +36,7 @@ module _ (before piece : List ℕ) (good : stop 0 before ≡ length before) wher
   pub piece-good : stop here piece ≡ end → stop 0 (before ++ piece) ≡ length (before ++ piece)
   piece-good e = on piece ∙ (e ∙ sym (length-append before piece))
 
-  -- and where they have more columns than a row may have, the piece has the answer if it is the last, or stops before its end.
+  -- and where they have more columns than a row may have, the piece decides if it is the last, or stops before its end.
   module _ (k : ℕ) (long : columnLimit < length (cdmOf (before ++ piece))) where
     pub piece-last : reportText (before ++ piece) k ≡ longReport (faultAt (stop here piece) end)
     unfolding textFault
