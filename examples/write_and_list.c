@@ -41,18 +41,21 @@ static void list_write(const uint8_t *cdm, const uint8_t *cds, size_t columns) {
     free(list);
 }
 
-/* Rows go to text and back unchanged; a text whose last column is no column is refusal 11, with its line. */
+/* Rows go to text and back unchanged; a text whose last column has a 2 is refusal 14, with the 2's line and byte. */
 static void carry_rows(const uint8_t *cdm, const uint8_t *cds, size_t columns) {
     size_t bytes = 8 + 4 * columns;
     uint8_t *text = lent(bytes, 0), *cdm_back = lent(columns, 7), *cds_back = lent(columns, 7);
     expect(biss_rows_to_text(cdm, columns, cds, columns, text, bytes) == bytes, "the rows are printed where they just fit");
     text[bytes - 2] = '2';
     uint64_t answer = biss_text_to_rows(text, bytes, cdm_back, columns, cds_back, columns);
-    expect(biss_is_refused(answer) && biss_refusal(answer) == 11 && biss_line(answer) == columns + 1, "a 2 is no bit");
+    expect(biss_is_refused(answer) && biss_refusal(answer) == 14, "a 2 is no bit");
+    expect(biss_line(answer) == columns + 1 && biss_byte(answer) == 2, "it is the second digit of the last line");
     expect(cdm_back[0] == 7 && cds_back[columns - 1] == 7, "a refused text changes nothing");
-    printf("a text with a 2: refusal %u, line %u\n", biss_refusal(answer), (unsigned)biss_line(answer));
+    printf("a text with a 2: refusal %u, line %u, byte %u\n", biss_refusal(answer), (unsigned)biss_line(answer), biss_byte(answer));
     text[bytes - 2] = '0' + cds[columns - 1];
-    expect(biss_text_to_rows(text, bytes, cdm_back, columns, cds_back, columns) == columns, "the text is taken");
+    answer = biss_text_to_rows(text, bytes, cdm_back, columns, cds_back, columns);
+    expect(answer == columns && !biss_is_refused(answer), "the text is taken");
+    expect(biss_refusal(answer) == 0 && biss_line(answer) == 0 && biss_byte(answer) == 0, "and so tells no refusal");
     expect(memcmp(cdm, cdm_back, columns) == 0 && memcmp(cds, cds_back, columns) == 0, "the rows are the same");
     free(text), free(cdm_back), free(cds_back);
 }

@@ -27,9 +27,11 @@ fn main() {
     let (mut cdm_back, mut cds_back) = (vec![7; columns], vec![7; columns]);
     let last_digit = text.len() - 2;
     text[last_digit] = b'2';
-    let refused = biss::text_to_rows(&text, &mut cdm_back, &mut cds_back);
-    assert_eq!(refused, Err(Refusal::BadLine(columns + 1)));
-    println!("a text with a 2: refusal 11, line {}", columns + 1);
+    let refusal =
+        biss::text_to_rows(&text, &mut cdm_back, &mut cds_back).expect_err("a 2 is no bit");
+    assert_eq!(refusal, Refusal::InText { number: 14, line: columns + 1, byte: 2 });
+    assert_eq!(refusal.to_string(), "line 47, byte 2: digit not 0 or 1");
+    println!("a text with a 2: refusal {}, line {}, byte 2", refusal.number(), columns + 1);
     text[last_digit] = b'0' + cds[columns - 1];
     assert_eq!(biss::text_to_rows(&text, &mut cdm_back, &mut cds_back), Ok(columns));
     assert_eq!((cdm, &cds), (&cdm_back[..], &cds_back));

@@ -1,17 +1,23 @@
 /* The jobs of the library biss: build, run, read and carry (docs/ and README.md tell what they are).
  *
  * Every call judges all that it is given before it writes. It answers how many columns, bytes or entries it made; or, with the bit
- * BISS_REFUSED set, the number of a refusal, and then no lent byte has changed. Number 11 is told by its line: the bit BISS_LINE is
- * set too, and the line, counted from 1, stands in the number's place. biss_is_refused, biss_refusal and biss_line below read an
+ * BISS_REFUSED set, a refusal, and then no lent byte has changed. biss_is_refused, biss_refusal, biss_line and biss_byte below read an
  * answer. Of a job's refusals the first that holds is told, in the order that its call names:
  *
- *    1  more than 16 slaves                       7  a row byte that is not 0 or 1
- *    2  registers not 128 x slaves bytes          8  opening column greater than the length
- *    3  rights not 128 x slaves bytes             9  the result needs more room than was lent
- *    4  a right above 3                          10  id over 7, address over 127, CMD over 3, count 0 or over 64,
- *    5  a row of more than 4,096 columns             or address + count over 128
- *    6  two rows of different length             11  a text not of its form; the first bad line
- *                                                12  list length no multiple of 6, or a kind outside 1 to 16
+ *    1  more than 16 slaves                           12  list length no multiple of 6, or a kind outside 1 to 16
+ *    2  registers not 128 x slaves bytes              13  a wrong byte in the header line
+ *    3  rights not 128 x slaves bytes                 14  digit not 0 or 1
+ *    4  a right above 3                               15  tab missing
+ *    5  a row of more than 4,096 columns              16  line feed missing
+ *    6  two rows of different length                  17  the text ends inside a line
+ *    7  a row byte that is not 0 or 1
+ *    8  opening column greater than the length
+ *    9  the result needs more room than was lent
+ *   10  id over 7, address over 127, CMD over 3, count 0 or over 64, or address + count over 128
+ *
+ * 13 to 17 say what is wrong with a text at its first bad byte, 14 to 16 below the header line: they tell the line, counted from 1, and
+ * the byte in that line, counted from 0. 17 tells the byte just past the text's end; an empty text is 13. A line is told whole below
+ * 2^53, that is for every text of fewer than 2^55 bytes; for any beyond the highest line that has room is told. 11 is given no more.
  *
  * A buffer is a pointer and its length in bytes. It has to be as long as is said, and a buffer that a call writes must not overlap
  * another of the same call: this is all that a caller has to see to, for C cannot check it. A pointer of length 0 is not followed.
@@ -23,13 +29,14 @@
 #include <stddef.h>
 #include <stdint.h>
 
+/* The bits of a refusal: 63 is BISS_REFUSED, 62 is kept free, 61 to 9 are the line, 8 to 6 the byte, 5 to 0 the number. */
 #define BISS_REFUSED (UINT64_C(1) << 63)
-#define BISS_LINE (UINT64_C(1) << 62)
 
-/* Whether an answer is a refusal; of a refusal, its number; and the first bad line for number 11, 0 for every other number. */
+/* Whether an answer is a refusal; of a refusal its number, and for 13 to 17 its line and its byte; 0 where there is none to tell. */
 static inline int biss_is_refused(uint64_t answer) { return (answer & BISS_REFUSED) != 0; }
-static inline unsigned biss_refusal(uint64_t answer) { return answer & BISS_LINE ? 11 : (unsigned)(answer & ~BISS_REFUSED); }
-static inline uint64_t biss_line(uint64_t answer) { return answer & BISS_LINE ? answer & (BISS_LINE - 1) : 0; }
+static inline unsigned biss_refusal(uint64_t answer) { return biss_is_refused(answer) ? (unsigned)(answer & 0x3F) : 0; }
+static inline uint64_t biss_line(uint64_t answer) { return biss_is_refused(answer) ? (answer >> 9) & ((UINT64_C(1) << 53) - 1) : 0; }
+static inline unsigned biss_byte(uint64_t answer) { return biss_is_refused(answer) ? (unsigned)(answer >> 6) & 7 : 0; }
 
 /* Builds the master row of a read of `count` registers of the slave `id`, from `address` on, into the first bytes of `out`.
  * Refusals 10, 9. */
@@ -58,7 +65,7 @@ uint64_t biss_rows_to_text(const uint8_t *cdm, size_t cdm_length, const uint8_t 
                            size_t out_length);
 
 /* Takes the two rows of a text, as biss_rows_to_text prints it, into the first bytes of `cdm` and `cds`, and answers how many columns
- * they have. Refusals 11, 5, 9. */
+ * they have. Refusals 13 to 17, 5, 9. */
 uint64_t biss_text_to_rows(const uint8_t *text, size_t text_length, uint8_t *cdm, size_t cdm_length, uint8_t *cds,
                            size_t cds_length);
 

@@ -1,22 +1,55 @@
 //! The calls of the library biss, safe: a slice brings its length, and Rust keeps a lent buffer apart from every other.
 //! Include it as a module (`#[path = "..."] mod biss;`) and link `target/staticlib/libbiss.a`. What each call does is told in biss.h.
 
-/// Why a call refused; then no lent byte has changed.
+/// Why a call refused; then no lent byte has changed. It is shown in the words of the table in biss.h.
 #[derive(Clone, Copy, PartialEq, Eq, Debug)]
 pub enum Refusal {
-    /// A number of the table in biss.h, but 11.
+    /// A number of the table in biss.h below 13.
     Number(u8),
-    /// Number 11: the first bad line of a text, counted from 1.
-    BadLine(usize),
+    /// 13 to 17: what is wrong with a text, at this line, counted from 1, and this byte of it, counted from 0.
+    InText { number: u8, line: usize, byte: usize },
 }
 
 impl Refusal {
     /// The number of the table in biss.h.
     pub fn number(self) -> u8 {
         match self {
-            Refusal::Number(number) => number,
-            Refusal::BadLine(_) => 11,
+            Refusal::Number(number) | Refusal::InText { number, .. } => number,
         }
+    }
+}
+
+impl std::fmt::Display for Refusal {
+    fn fmt(&self, to: &mut std::fmt::Formatter) -> std::fmt::Result {
+        if let Refusal::InText { line, byte, .. } = self {
+            write!(to, "line {line}, byte {byte}: ")?;
+        }
+        to.write_str(words(self.number()))
+    }
+}
+
+impl std::error::Error for Refusal {}
+
+/// The words of a number in the table in biss.h.
+fn words(number: u8) -> &'static str {
+    match number {
+        1 => "more than 16 slaves",
+        2 => "registers not 128 x slaves bytes",
+        3 => "rights not 128 x slaves bytes",
+        4 => "a right above 3",
+        5 => "a row of more than 4,096 columns",
+        6 => "two rows of different length",
+        7 => "a row byte that is not 0 or 1",
+        8 => "opening column greater than the length",
+        9 => "the result needs more room than was lent",
+        10 => "id over 7, address over 127, CMD over 3, count 0 or over 64, or address + count over 128",
+        12 => "list length no multiple of 6, or a kind outside 1 to 16",
+        13 => "a wrong byte in the header line",
+        14 => "digit not 0 or 1",
+        15 => "tab missing",
+        16 => "line feed missing",
+        17 => "the text ends inside a line",
+        _ => "a number that the table does not have",
     }
 }
 
@@ -91,18 +124,16 @@ mod calls {
 #[derive(Clone, Copy, PartialEq, Eq, Debug)]
 pub struct ChannelPlace(pub u8);
 
-const REFUSED: u64 = 1 << 63;
-const LINE: u64 = 1 << 62;
-
-/// `n` is n made, `REFUSED + k` is the refusal k, `REFUSED + LINE + l` is refusal 11 with the line l.
-fn answer(coded: u64) -> Answer {
-    if coded & REFUSED == 0 {
-        Ok(coded as usize)
-    } else if coded & LINE == 0 {
-        Err(Refusal::Number(u8::try_from(coded - REFUSED).unwrap_or(u8::MAX)))
-    } else {
-        Err(Refusal::BadLine((coded - REFUSED - LINE) as usize))
+/// What a call's code says. Without bit 63 it is how many were made; with it bits 61 to 9 are the line of a refusal, 0 where it tells
+/// none, bits 8 to 6 the byte in that line and bits 5 to 0 the number.
+pub fn answer(coded: u64) -> Answer {
+    if coded >> 63 == 0 {
+        return Ok(coded as usize);
     }
+    let number = (coded & 0x3F) as u8;
+    let byte = (coded >> 6 & 7) as usize;
+    let line = (coded >> 9 & ((1 << 53) - 1)) as usize;
+    Err(if line == 0 { Refusal::Number(number) } else { Refusal::InText { number, line, byte } })
 }
 
 pub fn build_read(id: u8, address: u8, count: usize, out: &mut [u8]) -> Answer {
