@@ -4,7 +4,7 @@ use crate::bench::bench;
 use crate::compare::{compare, describe};
 use crate::counts::Counts;
 use crate::generate::{Marks, Provoked, Random};
-use crate::job::{marks, numbers, Job};
+use crate::job::{marks, numbers, with_later, Job};
 use crate::jobs::JOBS;
 use crate::shrink::shrink;
 
@@ -12,7 +12,7 @@ use crate::shrink::shrink;
 pub struct Listed {
     pub name: &'static str,
     share: usize,
-    pub refusals: fn() -> Vec<u8>,
+    pub refusals: fn() -> Vec<(u8, Vec<u8>)>,
     pub marks: fn() -> Marks,
     pub bench: fn(),
     make: fn(&'static str, u64, &mut Random) -> Box<dyn Case>,
@@ -23,7 +23,7 @@ impl Listed {
         Listed {
             name,
             share,
-            refusals: numbers::<J>,
+            refusals: with_later::<J>,
             marks: marks::<J>,
             bench: bench::<J>,
             make: Seeded::<J>::make,
@@ -65,7 +65,7 @@ struct Seeded<J> {
 
 impl<J: Job> Seeded<J> {
     fn make(name: &'static str, seed: u64, random: &mut Random) -> Box<dyn Case> {
-        let provoked = Provoked::draw(random, &numbers::<J>());
+        let provoked = Provoked::draw(random, &numbers::<J>(), J::EXCLUSIVE.0);
         let mut marks = Marks::new();
         let case = J::make(random, &provoked, &mut marks);
         Box::new(Seeded { name, seed, marks, case })

@@ -1,4 +1,6 @@
-//! Conditions of refusals that several jobs have.
+//! Conditions of refusals that several jobs have, and those of a text.
+
+use model::Fault;
 
 /// 5 for two rows.
 pub fn too_long(cdm: &[u8], cds: &[u8]) -> bool {
@@ -10,18 +12,26 @@ pub fn bad_byte(row: &[u8]) -> bool {
     row.iter().any(|&byte| byte != 0 && byte != 1)
 }
 
-/// 11: the first line with a byte that does not belong where it stands.
-pub fn bad_line(text: &[u8]) -> Option<usize> {
+/// 13 to 17: the first place of a text whose byte does not belong there, or its
+/// end where no line ends; number, line and byte all follow from the place.
+pub fn fault(text: &[u8]) -> Option<Fault> {
     let belongs = |place: usize, byte: u8| match place {
         0..=7 => byte == b"cdm\tcds\n"[place],
         _ if place % 4 == 1 => byte == b'\t',
         _ if place % 4 == 3 => byte == b'\n',
         _ => byte == b'0' || byte == b'1',
     };
-    let line_of = |place: usize| if place < 8 { 1 } else { 2 + (place - 8) / 4 };
-    if let Some(place) = (0..text.len()).find(|&place| !belongs(place, text[place])) {
-        return Some(line_of(place));
+    let bad = (0..text.len()).find(|&place| !belongs(place, text[place]));
+    let place = bad.unwrap_or(text.len());
+    if bad.is_none() && place >= 8 && place.is_multiple_of(4) {
+        return None;
     }
-    let is_whole = text.len() >= 8 && text.len().is_multiple_of(4);
-    (!is_whole).then(|| line_of(text.len()))
+    let number = match place {
+        0 => 13,
+        _ if bad.is_none() => 17,
+        1..=7 => 13,
+        _ => [14, 15, 14, 16][place % 4],
+    };
+    let (line, byte) = if place < 8 { (1, place) } else { (place / 4, place % 4) };
+    Some(Fault { number, line, byte })
 }

@@ -1,17 +1,20 @@
-//! How often each entry kind, each refusal, each phase and each way to make a
-//! case came up.
+//! How often each entry kind, each refusal, each fault of a text, each phase and
+//! each way to make a case came up.
 
 mod table;
 
 use crate::case::Listed;
 use crate::compare::Left;
 use crate::generate::recordings::{Answers, ANSWERS};
+use crate::generate::texts::{each, Faults, IN_COLUMN, IN_HEADER};
 use crate::job::{holding, Job};
 use crate::jobs::JOBS;
 use model::entry::{ADDRESS, ENTRY_BYTES, FORMS, KIND, VALUE};
 use model::phase::{Met, Phase, PHASES};
-use model::Outcome::Made;
-use std::collections::BTreeMap;
+use model::rows::MOST_COLUMNS;
+use model::Fault;
+use model::Outcome::{InText, Made};
+use std::collections::{BTreeMap, BTreeSet};
 use std::fmt;
 use std::ops::RangeInclusive;
 
@@ -19,6 +22,28 @@ const LEAST: u64 = 100;
 /// "2, 8, 9, 12 and 14 never occur" in the account, so not in honest rows.
 const NEVER_HONEST: [u8; 5] = [2, 8, 9, 12, 14];
 const LOCKS: RangeInclusive<u8> = 0..=9;
+
+/// Where in a text a fault stands.
+#[derive(Clone, Copy, PartialEq, Eq, PartialOrd, Ord, Debug)]
+pub enum Part {
+    Header,
+    Column,
+    PastLimit,
+}
+
+/// The parts of a text, and the faults that each can have.
+const PARTS: [(Part, Faults); 3] =
+    [(Part::Header, IN_HEADER), (Part::Column, IN_COLUMN), (Part::PastLimit, IN_COLUMN)];
+
+impl Part {
+    fn of(line: usize) -> Part {
+        match line {
+            1 => Part::Header,
+            _ if line <= 1 + MOST_COLUMNS => Part::Column,
+            _ => Part::PastLimit,
+        }
+    }
+}
 
 /// What is counted. A job stands in it by its name.
 #[derive(Clone, Copy, PartialEq, Eq, PartialOrd, Ord)]
@@ -35,6 +60,8 @@ pub enum Count {
     /// Rows in which a slave, or the reader, met a phase.
     SlaveAt(Phase),
     ReaderAt(Phase),
+    /// Faults of texts: where, the number, and the byte in the line.
+    Fault(Part, u8, usize),
     Made(&'static str),
     /// Cases with a mark.
     Marked(&'static str, &'static str),
@@ -63,6 +90,7 @@ impl fmt::Display for Count {
             Count::Printed(kind) => write!(to, "printed {}", kind_name(*kind)),
             Count::SlaveAt(phase) => write!(to, "slave at {phase:?}"),
             Count::ReaderAt(phase) => write!(to, "reader at {phase:?}"),
+            Count::Fault(part, number, byte) => write!(to, "{part:?} {number} at byte {byte}"),
             Count::Made(job) => write!(to, "{job} made"),
             Count::Marked(job, mark) => write!(to, "{job} {mark}"),
             Count::Refused(job, number) => write!(to, "{job} refused {number}"),
@@ -113,6 +141,9 @@ impl Counts {
             self.add_one(Count::Made(job));
             case.count(&left.case, made, self);
         }
+        if let InText(Fault { number, line, byte }) = left.outcome {
+            self.add_one(Count::Fault(Part::of(line), number, byte));
+        }
         if let Some(number) = left.outcome.refusal() {
             self.add_refusal(job, number, &holding(case));
         }
@@ -150,52 +181,54 @@ impl Counts {
 
     /// The counts that should be reached and are under the least.
     pub fn too_low(&self) -> Vec<String> {
-        let low = |&(count, reachable): &(Count, bool)| reachable && self.of(count) < LEAST;
-        self.told(expected().into_iter().filter(low))
+        self.told(expected().into_iter().filter(|&count| self.of(count) < LEAST))
     }
 
-    /// The counts that must be 0 and are not.
+    /// The counts of what cannot be.
     pub fn impossible(&self) -> Vec<String> {
-        let wrong = |&(count, reachable): &(Count, bool)| !reachable && self.of(count) > 0;
-        self.told(expected().into_iter().filter(wrong))
+        let expected: BTreeSet<Count> = expected().into_iter().collect();
+        self.told(self.counted.keys().copied().filter(|count| !expected.contains(count)))
     }
 
-    fn told(&self, counts: impl Iterator<Item = (Count, bool)>) -> Vec<String> {
-        counts.map(|(count, _)| format!("{count}: {}", self.of(count))).collect()
+    fn told(&self, counts: impl Iterator<Item = Count>) -> Vec<String> {
+        counts.map(|count| format!("{count}: {}", self.of(count))).collect()
     }
 }
 
-/// Every count, and whether it can be reached.
-fn expected() -> Vec<(Count, bool)> {
-    let mut all = Vec::new();
-    for answers in ANSWERS {
-        let honest = answers == Answers::Honest;
-        let reachable = |kind| !(honest && NEVER_HONEST.contains(&kind));
-        all.extend(kinds().map(|kind| (Count::Entry(answers, kind), reachable(kind))));
-        all.extend([(Count::OddAt127(answers), !honest), (Count::OddAt64th(answers), !honest)]);
-        all.extend(LOCKS.map(|value| (Count::Lock(answers, value), true)));
-    }
-    all.extend(kinds().map(|kind| (Count::Printed(kind), true)));
-    all.extend(PHASES.map(|phase| (Count::SlaveAt(phase), true)));
-    all.extend(PHASES.map(|phase| (Count::ReaderAt(phase), true)));
-    all.extend(JOBS.iter().flat_map(expected_of_job).map(|count| (count, true)));
+/// Every count that can be reached.
+fn expected() -> Vec<Count> {
+    let mut all: Vec<Count> = ANSWERS.into_iter().flat_map(expected_of_lists).collect();
+    all.extend(kinds().map(Count::Printed));
+    all.extend(PHASES.map(Count::SlaveAt));
+    all.extend(PHASES.map(Count::ReaderAt));
+    all.extend(PARTS.into_iter().flat_map(expected_of_texts));
+    all.extend(JOBS.iter().flat_map(expected_of_job));
     all
+}
+
+fn expected_of_lists(answers: Answers) -> Vec<Count> {
+    let honest = answers == Answers::Honest;
+    let reachable = |kind: &u8| !(honest && NEVER_HONEST.contains(kind));
+    let mut all: Vec<Count> =
+        kinds().filter(reachable).map(|kind| Count::Entry(answers, kind)).collect();
+    if !honest {
+        all.extend([Count::OddAt127(answers), Count::OddAt64th(answers)]);
+    }
+    all.extend(LOCKS.map(|value| Count::Lock(answers, value)));
+    all
+}
+
+fn expected_of_texts((part, faults): (Part, Faults)) -> Vec<Count> {
+    each(faults).into_iter().map(|(number, byte)| Count::Fault(part, number, byte)).collect()
 }
 
 fn expected_of_job(job: &Listed) -> Vec<Count> {
     let name = job.name;
     let mut all = vec![Count::Made(name)];
     all.extend((job.marks)().iter().map(|mark| Count::Marked(name, mark)));
-    for (number, later) in refusals(job) {
+    for (number, later) in (job.refusals)() {
         all.extend([Count::Refused(name, number), Count::Alone(name, number)]);
         all.extend(later.iter().map(|&other| Count::With(name, number, other)));
     }
     all
-}
-
-/// The refusals of a job in its order, each with those that come later.
-fn refusals(job: &Listed) -> Vec<(u8, Vec<u8>)> {
-    let numbers = (job.refusals)();
-    let later = |order: usize| numbers[order + 1..].to_vec();
-    numbers.iter().enumerate().map(|(order, &number)| (number, later(order))).collect()
 }

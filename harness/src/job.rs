@@ -12,9 +12,14 @@ use model::Outcome;
 /// defined, or where an empty buffer is certainly too small.
 pub type Refusals<J> = &'static [(u8, fn(&J) -> bool)];
 
+/// Refusals of which no two can hold in one case, before all others in the
+/// paper's order: their numbers, and which of them holds for a case.
+pub type Exclusive<J> = (&'static [u8], fn(&J) -> Option<u8>);
+
 /// A job of paper 01. A value of it is a case: all that one call is given, and
 /// after the call all that it has left.
 pub trait Job: Fields + Clone + 'static {
+    const EXCLUSIVE: Exclusive<Self> = (&[], |_| None);
     const REFUSALS: Refusals<Self>;
 
     /// What its cases must be marked with, beside the marks of room for a result.
@@ -60,7 +65,17 @@ pub trait Job: Fields + Clone + 'static {
 
 /// The numbers of a job's refusals, in its order.
 pub fn numbers<J: Job>() -> Vec<u8> {
-    J::REFUSALS.iter().map(|&(number, _)| number).collect()
+    let others = J::REFUSALS.iter().map(|&(number, _)| number);
+    J::EXCLUSIVE.0.iter().copied().chain(others).collect()
+}
+
+/// The refusals of a job in its order, each with the later ones that can hold
+/// with it.
+pub fn with_later<J: Job>() -> Vec<(u8, Vec<u8>)> {
+    let numbers = numbers::<J>();
+    let exclusive = J::EXCLUSIVE.0.len();
+    let later = |order: usize| numbers[exclusive.max(order + 1)..].to_vec();
+    numbers.iter().enumerate().map(|(order, &number)| (number, later(order))).collect()
 }
 
 /// What a job's cases must be marked with.
@@ -72,8 +87,9 @@ pub fn marks<J: Job>() -> Marks {
 
 /// The refusals whose condition holds, in the job's order.
 pub fn holding<J: Job>(case: &J) -> Vec<u8> {
-    let holding = J::REFUSALS.iter().filter(|(_, holds)| holds(case));
-    holding.map(|&(number, _)| number).collect()
+    let others = J::REFUSALS.iter().filter(|(_, holds)| holds(case));
+    let exclusive = (J::EXCLUSIVE.1)(case);
+    exclusive.into_iter().chain(others.map(|&(number, _)| number)).collect()
 }
 
 /// The fields of a case, in the order of the call.

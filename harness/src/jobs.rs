@@ -50,7 +50,7 @@ table! {
     run(slaves: usize, rights: &[u8], registers: &mut [u8], cdm: &[u8], cds: &mut [u8])
         => run::Run, 31;
     read(cdm: &[u8], cds: &[u8], opening: usize, out: &mut [u8]) => read::Read, 31;
-    text_to_rows(text: &[u8], cdm: &mut [u8], cds: &mut [u8]) => text_to_rows::TextToRows, 11;
+    text_to_rows(text: &[u8], cdm: &mut [u8], cds: &mut [u8]) => text_to_rows::TextToRows, 12;
     rows_to_text(cdm: &[u8], cds: &[u8], out: &mut [u8]) => rows_to_text::RowsToText, 9;
     list_to_text(list: &[u8], out: &mut [u8]) => list_to_text::ListToText, 10;
     channel_of(id: u8, slaves: usize);

@@ -5,6 +5,8 @@
 //! its users get; with `mutant`, those of a mutant of the model; with neither,
 //! the model's own, so that the comparison can be tried on itself.
 
+#[cfg(any(feature = "linked", feature = "mutant"))]
+use model::Fault;
 use model::Outcome;
 
 pub struct Library;
@@ -41,27 +43,35 @@ impl Told for mutant::Outcome {
         match self {
             mutant::Outcome::Made(made) => Outcome::Made(made),
             mutant::Outcome::Refused(number) => Outcome::Refused(number),
-            mutant::Outcome::BadLine(line) => Outcome::BadLine(line),
+            mutant::Outcome::InText(mutant::Fault { number, line, byte }) => {
+                Outcome::InText(Fault { number, line, byte })
+            }
         }
     }
 }
 
-#[cfg(feature = "linked")]
+/// The wrapper. Where the library is not linked, only how it reads and words an
+/// answer is tried.
 #[path = "../../include/biss.rs"]
 #[allow(dead_code)]
-pub mod functions;
+pub mod biss;
+
+#[cfg(feature = "linked")]
+pub use biss as functions;
 
 #[cfg(feature = "linked")]
 mod linked {
-    use super::functions::{Answer, ChannelPlace, Refusal};
-    use super::{Outcome, Told};
+    use super::biss::{Answer, ChannelPlace, Refusal};
+    use super::{Fault, Outcome, Told};
 
     impl Told for Answer {
         fn told(self) -> Outcome {
             match self {
                 Ok(made) => Outcome::Made(made),
                 Err(Refusal::Number(number)) => Outcome::Refused(number),
-                Err(Refusal::BadLine(line)) => Outcome::BadLine(line),
+                Err(Refusal::InText { number, line, byte }) => {
+                    Outcome::InText(Fault { number, line, byte })
+                }
             }
         }
     }

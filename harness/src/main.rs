@@ -38,17 +38,20 @@ harness programs [write]  the files of the indexing program's crates held to the
                           model, or written
 harness index PROGRAM N   the linked program on the named inputs and on the texts
                           of N seeds
-harness selftest          the bench card on the model
+harness selftest          the bench card on the model, and the wrapper's words
 harness --help            this text
 
 Exit status 0 if model and library never differ, the model keeps its own
-promises and every count of entries, refusals, phases and ways to make a case is
-at least 100 (the last not asked of soak under 600, seed and watch).";
+promises and every count of entries, refusals, faults, phases and ways to make a
+case is at least 100 (the last not asked of soak under 600, seed and watch).";
 
 fn selftest() -> bool {
     let (tried, failed) = selftest::selftest();
     failed.iter().for_each(|line| println!("BENCH CARD {line}"));
-    println!("bench card: {tried} values tried on the model, {} wrong", failed.len());
+    println!(
+        "bench card: {tried} values tried on the model and the wrapper, {} wrong",
+        failed.len()
+    );
     failed.is_empty()
 }
 

@@ -1,12 +1,15 @@
-//! The bench card of paper 01, tried on the model.
+//! The bench card of paper 01, tried on the model; and codes of the library, read
+//! and worded by its wrapper.
 
+use crate::library::biss::{answer, Answer, Refusal};
 use model::account::account;
 use model::check::{check_bits, command_word, register_word, BYTE_BITS, HEADER_BITS};
 use model::entry::{Entry, Kind, ENTRY_BYTES};
 use model::list::list;
-use model::Outcome::{self, BadLine, Made, Refused};
+use model::Outcome::{self, InText, Made, Refused};
 use model::{
     build_command, build_read, build_write, list_to_text, read, rows_to_text, run, text_to_rows,
+    Fault,
 };
 
 /// Collects what failed.
@@ -35,7 +38,10 @@ pub fn selftest() -> (usize, Vec<String>) {
     easy_errors(&mut card);
     easy_answers(&mut card);
     texts(&mut card);
+    long_texts(&mut card);
     lists(&mut card);
+    codes(&mut card);
+    words(&mut card);
     (card.tried, card.failed)
 }
 
@@ -176,6 +182,31 @@ fn easy_answers(card: &mut Card) {
     card.same("refused write", kinds(&cdm, &cds), wanted);
 }
 
+/// Texts, and the number, line and byte of what is wrong with them.
+const FAULTS: [(&str, u8, usize, usize); 21] = [
+    ("", 13, 1, 0),
+    ("xdm\tcds\n0\t1\n", 13, 1, 0),
+    ("cdm cds\n", 13, 1, 3),
+    ("cdm\tcds0\t1\n", 13, 1, 7),
+    ("cdm\tcds\r\n", 13, 1, 7),
+    ("cdx", 13, 1, 2),
+    ("c", 17, 1, 1),
+    ("cdm", 17, 1, 3),
+    ("cdm\tcds", 17, 1, 7),
+    ("cdm\tcds\n\n", 14, 2, 0),
+    ("cdm\tcds\n0\t1\n2\t0\n", 14, 3, 0),
+    ("cdm\tcds\n0\t1\n0\t0\n\n", 14, 4, 0),
+    ("cdm\tcds\n0\t\n", 14, 2, 2),
+    ("cdm\tcds\n0 2\r", 15, 2, 1),
+    ("cdm\tcds\n0\t1\n01\n", 15, 3, 1),
+    ("cdm\tcds\n0\t0\t0\n", 16, 2, 3),
+    ("cdm\tcds\n0\t1\n0\t0\r\n", 16, 3, 3),
+    ("cdm\tcds\n0", 17, 2, 1),
+    ("cdm\tcds\n0\t", 17, 2, 2),
+    ("cdm\tcds\n0\t1", 17, 2, 3),
+    ("cdm\tcds\n0\t1\n1\t0", 17, 3, 3),
+];
+
 fn texts(card: &mut Card) {
     let (mut cdm, mut cds) = ([9; 3], [9; 3]);
     let mut back = |text: &str| -> (Outcome, [u8; 3], [u8; 3]) {
@@ -187,23 +218,24 @@ fn texts(card: &mut Card) {
     let good = back("cdm\tcds\n0\t1\n1\t0\n");
     card.same("two columns", good, (Made(2), [0, 1, 9], [1, 0, 9]));
     card.same("no columns", back("cdm\tcds\n"), (Made(0), untouched, untouched));
-    for (text, line) in [
-        ("", 1),
-        ("cdm\tcds", 1),
-        ("cdm cds\n", 1),
-        ("cdm\tcds\n\n", 2),
-        ("cdm\tcds\n0\t1", 2),
-        ("cdm\tcds\n0\t1\n2\t0\n", 3),
-        ("cdm\tcds\n0\t1\n0\t0\r\n", 3),
-        ("cdm\tcds\n0\t1\n0\t0\n\n", 4),
-    ] {
-        card.same(text, back(text), (BadLine(line), untouched, untouched));
+    for (text, number, line, byte) in FAULTS {
+        let fault = InText(Fault { number, line, byte });
+        card.same(text, back(text), (fault, untouched, untouched));
     }
     let four = "cdm\tcds\n0\t0\n0\t0\n0\t0\n0\t0\n";
     card.same("four columns in three", back(four), (Refused(9), untouched, untouched));
     let mut text = [0; 16];
     card.same("rows to text", rows_to_text(&[0, 1], &[1, 0], &mut text), Made(16));
     card.same("its bytes", &text, b"cdm\tcds\n0\t1\n1\t0\n");
+}
+
+/// A fault goes before 5, wherever it stands.
+fn long_texts(card: &mut Card) {
+    let mut text = [b"cdm\tcds\n".as_slice(), &b"0\t0\n".repeat(4097)].concat();
+    card.same("4,097 columns", text_to_rows(&text, &mut [], &mut []), Refused(5));
+    text.push(b'0');
+    let fault = InText(Fault { number: 17, line: 4099, byte: 1 });
+    card.same("cut behind the limit", text_to_rows(&text, &mut [], &mut []), fault);
 }
 
 fn lists(card: &mut Card) {
@@ -218,6 +250,46 @@ fn lists(card: &mut Card) {
     card.same("kind 0", list_to_text(&[0; 6], &mut text), Refused(12));
     card.same("kind 17", list_to_text(&[17; 6], &mut text), Refused(12));
     card.same("12 before 9", list_to_text(&[17; 6], &mut []), Refused(12));
+}
+
+const REFUSED: u64 = 1 << 63;
+const LINE: u64 = 512;
+const BYTE: u64 = 64;
+const LAST_LINE: usize = (1 << 53) - 1;
+
+/// Codes put together by hand, and what they say.
+const CODES: [(u64, Answer); 10] = [
+    (0, Ok(0)),
+    (46, Ok(46)),
+    (REFUSED - 1, Ok((1 << 63) - 1)),
+    (REFUSED + 1, Err(Refusal::Number(1))),
+    (REFUSED + 63, Err(Refusal::Number(63))),
+    (REFUSED + LINE + 13, in_text(13, 1, 0)),
+    (REFUSED + 47 * LINE + 2 * BYTE + 14, in_text(14, 47, 2)),
+    (REFUSED + 812 * LINE + BYTE + 15, in_text(15, 812, 1)),
+    (REFUSED + LINE + 7 * BYTE + 17, in_text(17, 1, 7)),
+    (REFUSED + LAST_LINE as u64 * LINE + 3 * BYTE + 16, in_text(16, LAST_LINE, 3)),
+];
+
+const fn in_text(number: u8, line: usize, byte: usize) -> Answer {
+    Err(Refusal::InText { number, line, byte })
+}
+
+fn codes(card: &mut Card) {
+    for (code, wanted) in CODES {
+        card.same(&format!("the code {code:x}"), answer(code), wanted);
+    }
+    let tab = Refusal::InText { number: 15, line: 812, byte: 1 };
+    card.same("a tab", tab.to_string().as_str(), "line 812, byte 1: tab missing");
+}
+
+/// The wrapper has the words of the table in biss.h; 11 is given no more.
+fn words(card: &mut Card) {
+    let table = include_str!("../../include/biss.h");
+    for number in 1..=17 {
+        let row = format!(" {number:>2}  {}", Refusal::Number(number));
+        card.same(&row, table.contains(&row), number != 11);
+    }
 }
 
 #[cfg(test)]

@@ -3,8 +3,8 @@
 
 use super::entry::ENTRY_BYTES;
 use super::rows::MOST_COLUMNS;
-use super::Outcome::{BadLine, Made, Refused};
-use super::{list_to_text, read, text_to_rows};
+use super::Outcome::{InText, Made, Refused};
+use super::{list_to_text, read, text_to_rows, Fault};
 
 /// A kind of at most eight letters, four numbers of at most five digits, four
 /// tabs and a line feed.
@@ -16,13 +16,15 @@ pub fn index(text: &[u8], opening: usize) -> Vec<u8> {
     let columns = match text_to_rows(text, &mut cdm, &mut cds) {
         Made(columns) => columns,
         Refused(number) => return format!("refused\t{number}\n").into_bytes(),
-        BadLine(line) => return format!("refused\t11\t{line}\n").into_bytes(),
+        InText(Fault { number, line, byte }) => {
+            return format!("refused\t{number}\t{line}\t{byte}\n").into_bytes();
+        }
     };
     let mut list = vec![0; ENTRY_BYTES * MOST_COLUMNS];
     let entries = match read(&cdm[..columns], &cds[..columns], opening, &mut list) {
         Made(entries) => entries,
         Refused(number) => return format!("refused\t{number}\n").into_bytes(),
-        BadLine(line) => panic!("read answered line {line}"),
+        InText(fault) => panic!("read answered {fault:?}"),
     };
     let mut printed = vec![0; LONGEST_LINE * (1 + entries)];
     match list_to_text(&list[..ENTRY_BYTES * entries], &mut printed) {

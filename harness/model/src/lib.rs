@@ -30,8 +30,17 @@ pub enum Outcome {
     Made(usize),
     /// The number of the refusal.
     Refused(u8),
-    /// Refusal 11 with its line, counted from 1.
-    BadLine(usize),
+    /// A refusal of a text, 13 to 17.
+    InText(Fault),
+}
+
+/// What is wrong with a text: the number, the line, counted from 1, and the byte
+/// in that line, counted from 0.
+#[derive(Clone, Copy, PartialEq, Eq, Debug)]
+pub struct Fault {
+    pub number: u8,
+    pub line: usize,
+    pub byte: usize,
 }
 
 impl Outcome {
@@ -40,7 +49,7 @@ impl Outcome {
         match self {
             Outcome::Made(_) => None,
             Outcome::Refused(number) => Some(number),
-            Outcome::BadLine(_) => Some(11),
+            Outcome::InText(fault) => Some(fault.number),
         }
     }
 }

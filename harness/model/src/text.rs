@@ -1,27 +1,58 @@
 //! Rows to and from text: "one column a line".
 
 use super::rows::{refusal_of_rows, MOST_COLUMNS};
-use super::Outcome::{self, BadLine, Made, Refused};
+use super::Fault;
+use super::Outcome::{self, InText, Made, Refused};
 
 pub const ROWS_HEADER: &[u8] = b"cdm\tcds\n";
+const COLUMN_BYTES: usize = 4;
 
-/// The two digits of a line with its line feed, if it is a column.
-fn column(line: &[u8]) -> Option<(u8, u8)> {
-    match line {
-        [a @ (b'0' | b'1'), b'\t', b @ (b'0' | b'1'), b'\n'] => Some((a - b'0', b - b'0')),
-        _ => None,
+/// The number of a wrong byte in the header line.
+fn wrong_in_header(byte: usize, found: u8) -> Option<u8> {
+    (found != ROWS_HEADER[byte]).then_some(13)
+}
+
+/// The number of a wrong byte in a column's line.
+fn wrong_in_column(byte: usize, found: u8) -> Option<u8> {
+    match (byte, found) {
+        (0 | 2, b'0' | b'1') | (1, b'\t') | (3, b'\n') => None,
+        (0 | 2, _) => Some(14),
+        (1, _) => Some(15),
+        _ => Some(16),
     }
 }
 
-/// The columns of a text, or its first bad line, counted from 1.
-fn columns(text: &[u8]) -> Result<Vec<(u8, u8)>, usize> {
-    let mut lines = text.split_inclusive(|&byte| byte == b'\n');
-    if lines.next() != Some(ROWS_HEADER) {
-        return Err(1);
+/// Judges the nth line, which has to have so many bytes: its first bad byte
+/// decides, and one that stops early is bad just past its end.
+fn judge(
+    nth: usize,
+    line: &[u8],
+    length: usize,
+    wrong: impl Fn(usize, u8) -> Option<u8>,
+) -> Result<(), Fault> {
+    for byte in 0..length {
+        let number = match line.get(byte) {
+            None => Some(17),
+            Some(&found) => wrong(byte, found),
+        };
+        if let Some(number) = number {
+            return Err(Fault { number, line: nth, byte });
+        }
     }
+    Ok(())
+}
+
+/// The columns of a text, or what is wrong with it.
+fn columns(text: &[u8]) -> Result<Vec<(u8, u8)>, Fault> {
+    if text.is_empty() {
+        return Err(Fault { number: 13, line: 1, byte: 0 });
+    }
+    let (header, below) = text.split_at(text.len().min(ROWS_HEADER.len()));
+    judge(1, header, ROWS_HEADER.len(), wrong_in_header)?;
     let mut found = Vec::new();
-    for (after_header, line) in lines.enumerate() {
-        found.push(column(line).ok_or(after_header + 2)?);
+    for (after_header, line) in below.chunks(COLUMN_BYTES).enumerate() {
+        judge(after_header + 2, line, COLUMN_BYTES, wrong_in_column)?;
+        found.push((line[0] - b'0', line[2] - b'0'));
     }
     Ok(found)
 }
@@ -30,7 +61,7 @@ fn columns(text: &[u8]) -> Result<Vec<(u8, u8)>, usize> {
 pub fn text_to_rows(text: &[u8], cdm: &mut [u8], cds: &mut [u8]) -> Outcome {
     let columns = match columns(text) {
         Ok(columns) => columns,
-        Err(line) => return BadLine(line),
+        Err(fault) => return InText(fault),
     };
     if columns.len() > MOST_COLUMNS {
         return Refused(5);

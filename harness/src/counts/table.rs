@@ -1,15 +1,20 @@
 //! The counts as a table.
 
-use super::{kind_name, kinds, refusals, Count, Counts, LOCKS};
+use super::{kind_name, kinds, Count, Counts, Part, LOCKS, PARTS};
 use crate::case::Listed;
 use crate::generate::recordings::{Answers, ANSWERS};
+use crate::generate::texts::Faults;
 use crate::jobs::JOBS;
 use model::phase::PHASES;
+use std::ops::RangeInclusive;
+
+/// The bytes of the longest line of a text, the header.
+const BYTES: RangeInclusive<usize> = 0..=7;
 
 impl Counts {
     pub fn table(&self) -> String {
         let jobs: String = JOBS.iter().map(|job| self.table_of_job(job)).collect();
-        self.table_of_entries() + &self.table_of_phases() + &jobs
+        self.table_of_entries() + &self.table_of_phases() + &self.table_of_faults() + &jobs
     }
 
     fn table_of_entries(&self) -> String {
@@ -44,10 +49,29 @@ impl Counts {
         text
     }
 
+    fn table_of_faults(&self) -> String {
+        let row = |name: &str, cell: &dyn Fn(usize) -> String| {
+            let cells: String = BYTES.map(|byte| format!("{:>7}", cell(byte))).collect();
+            format!("{name:<16}{cells}\n")
+        };
+        let times = |count| match self.of(count) {
+            0 => "-".to_string(),
+            times => times.to_string(),
+        };
+        let mut text = format!("\n{}", row("faults at byte", &|byte| byte.to_string()));
+        let numbers =
+            |(part, faults): (Part, Faults)| faults.iter().map(move |fault| (part, fault.0));
+        for (part, number) in PARTS.into_iter().flat_map(numbers) {
+            let name = format!("   {part:?} {number}");
+            text += &row(&name, &|byte| times(Count::Fault(part, number, byte)));
+        }
+        text
+    }
+
     fn table_of_job(&self, job: &Listed) -> String {
         let name = job.name;
         let mut text = format!("\n{name:<14} made {}\n", self.of(Count::Made(name)));
-        for (number, later) in refusals(job) {
+        for (number, later) in (job.refusals)() {
             let all = self.of(Count::Refused(name, number));
             let alone = self.of(Count::Alone(name, number));
             text += &format!("  refused {number:>2} {all:>7}   alone {alone:>6}");

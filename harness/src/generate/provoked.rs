@@ -13,12 +13,16 @@ pub const BAD_ROW_BYTES: &[u8] = &[2, 3, 48, 49, 128, 254, 255];
 pub struct Provoked(Vec<u8>);
 
 impl Provoked {
-    /// Mostly none, often one, often several of these.
-    pub fn draw(random: &mut Random, numbers: &[u8]) -> Provoked {
+    /// Mostly none, often one, often several of these. Of the exclusive ones the
+    /// first stands for all: they are drawn as one number.
+    pub fn draw(random: &mut Random, numbers: &[u8], exclusive: &[u8]) -> Provoked {
+        let others = exclusive.get(1..).unwrap_or_default();
+        let mut numbers = numbers.to_vec();
+        numbers.retain(|number| !others.contains(number));
         Provoked(match random.below(10) {
             0..=5 => Vec::new(),
-            6..=7 => vec![random.pick(numbers)],
-            _ => numbers.iter().copied().filter(|_| random.one_in(2)).collect(),
+            6..=7 => vec![random.pick(&numbers)],
+            _ => numbers.into_iter().filter(|_| random.one_in(2)).collect(),
         })
     }
 

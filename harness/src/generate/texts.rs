@@ -3,12 +3,20 @@
 use super::provoked::TWO_32;
 use super::random::Random;
 use super::recordings::recording;
-use crate::conditions::bad_line;
+use super::Marks;
+use crate::conditions::fault;
 use model::rows::MOST_COLUMNS;
 use model::{rows_to_text, text::ROWS_HEADER};
 
+/// Numbers of faults, each with the bytes of a line at which it can stand.
+pub type Faults = &'static [(u8, &'static [usize])];
+
+/// The faults that a text can have in its header and in a column's line.
+pub const IN_HEADER: Faults = &[(13, &[0, 1, 2, 3, 4, 5, 6, 7]), (17, &[1, 2, 3, 4, 5, 6, 7])];
+pub const IN_COLUMN: Faults = &[(14, &[0, 2]), (15, &[1]), (16, &[3]), (17, &[1, 2, 3])];
+
 /// What a damaged text is marked with.
-pub const DAMAGES: [&str; 14] = [
+pub const DAMAGES: [&str; 12] = [
     "byte changed",
     "byte removed",
     "byte inserted",
@@ -20,9 +28,7 @@ pub const DAMAGES: [&str; 14] = [
     "header wrong",
     "empty",
     "damage that does no harm",
-    "bad header",
-    "bad line",
-    "bad line past the limit",
+    "fault put",
 ];
 
 /// Larger than any row, and small if cut to sixteen bits.
@@ -71,8 +77,72 @@ fn place(random: &mut Random, text: &[u8]) -> usize {
     random.pick(&[0, 7, 8, text.len() - 1, any, any, any, any]).min(text.len() - 1)
 }
 
-/// Damages a text with its header, and says how and what is then bad.
-pub fn damage(random: &mut Random, text: &mut Vec<u8>) -> Vec<&'static str> {
+/// Damages a text with its header, and says how.
+pub fn damage(random: &mut Random, text: &mut Vec<u8>) -> Marks {
+    match random.below(10) {
+        0..=3 => return damage_anyhow(random, text),
+        4..=5 => spoil_header(random, text),
+        _ => spoil_column(random, text),
+    }
+    vec!["fault put"]
+}
+
+/// Gives a text one of the faults of a header.
+fn spoil_header(random: &mut Random, text: &mut Vec<u8>) {
+    let (number, byte) = random.pick(&each(IN_HEADER));
+    put_fault(random, text, number, byte);
+}
+
+/// Gives a text one of the faults of a column's line: at times any line, mostly
+/// one past the limit or else the last.
+fn spoil_column(random: &mut Random, text: &mut Vec<u8>) {
+    let (number, byte) = random.pick(&each(IN_COLUMN));
+    // Cut in a line of its own, a text keeps the columns that it has.
+    if number == 17 || text.len() == ROWS_HEADER.len() {
+        text.extend_from_slice(b"0\t1\n");
+    }
+    let columns = (text.len() - ROWS_HEADER.len()) / 4;
+    let last = columns - 1;
+    let past = MOST_COLUMNS.min(last);
+    let any = random.below(columns);
+    let any_past = random.between(past, last);
+    let column = random.pick(&[any, past, any_past, last]);
+    put_fault(random, text, number, ROWS_HEADER.len() + 4 * column + byte);
+}
+
+/// Each number with each of its bytes.
+pub fn each(faults: Faults) -> Vec<(u8, usize)> {
+    let places =
+        |&(number, bytes): &(u8, &'static [usize])| bytes.iter().map(move |&byte| (number, byte));
+    faults.iter().flat_map(places).collect()
+}
+
+/// Ends a text at a place, or makes the byte there wrong and at times one more
+/// behind it.
+fn put_fault(random: &mut Random, text: &mut Vec<u8>, number: u8, place: usize) {
+    if number == 17 {
+        return text.truncate(place);
+    }
+    let behind = place + random.between(1, 8);
+    if behind < text.len() && random.one_in(3) {
+        text[behind] = byte(random);
+    }
+    text[place] = other_byte(random, text[place]);
+}
+
+/// A byte that does not belong where this one does.
+fn other_byte(random: &mut Random, good: u8) -> u8 {
+    let as_digit = |byte| if byte == b'1' { b'0' } else { byte };
+    loop {
+        let drawn = byte(random);
+        if as_digit(drawn) != as_digit(good) {
+            return drawn;
+        }
+    }
+}
+
+/// Damages a text without asking what is then wrong with it, if anything is.
+fn damage_anyhow(random: &mut Random, text: &mut Vec<u8>) -> Marks {
     let how = random.below(10);
     let place = place(random, text);
     match how {
@@ -87,12 +157,7 @@ pub fn damage(random: &mut Random, text: &mut Vec<u8>) -> Vec<&'static str> {
         8 => drop(text.splice(..ROWS_HEADER.len(), random.pick(&HEADERS).to_vec())),
         _ => text.clear(),
     }
-    match bad_line(text) {
-        None => vec!["damage that does no harm"],
-        Some(1) => vec![DAMAGES[how], "bad header"],
-        Some(line) if line <= 1 + MOST_COLUMNS => vec![DAMAGES[how], "bad line"],
-        Some(_) => vec![DAMAGES[how], "bad line past the limit"],
-    }
+    vec![fault(text).map_or("damage that does no harm", |_| DAMAGES[how])]
 }
 
 fn byte(random: &mut Random) -> u8 {

@@ -3,12 +3,12 @@
 use super::Calls;
 use crate::bench::{rows, Timed};
 use crate::checks::must;
-use crate::conditions::bad_line;
+use crate::conditions::fault;
 use crate::generate::texts::{damage, lengthen, text, DAMAGES};
 use crate::generate::{room, Marks, Provoked, Random};
-use crate::job::{fields, Job, Refusals};
+use crate::job::{fields, Exclusive, Job, Refusals};
 use crate::lent::Lent;
-use model::Outcome::{self, BadLine, Made};
+use model::Outcome::{self, InText, Made};
 
 /// What a text is marked with.
 const COLUMNS: [&str; 5] =
@@ -17,8 +17,11 @@ const COLUMNS: [&str; 5] =
 fields!(TextToRows { ; text: Text, cdm: Room, cds: Room });
 
 impl Job for TextToRows {
+    /// The first bad byte decides.
+    const EXCLUSIVE: Exclusive<TextToRows> =
+        (&[13, 14, 15, 16, 17], |case| fault(&case.text).map(|fault| fault.number));
+
     const REFUSALS: Refusals<TextToRows> = &[
-        (11, |case| bad_line(&case.text).is_some()),
         (5, |case| case.columns() > 4096),
         (9, |case| case.columns() > case.cdm.len().min(case.cds.len())),
     ];
@@ -39,7 +42,8 @@ impl Job for TextToRows {
             4097 => "4097 columns",
             _ => "more columns",
         });
-        if provoked.has(11) {
+        // For 13 to 17: `damage` draws which.
+        if provoked.has(13) {
             marks.extend(damage(random, &mut text));
         }
         let which = random.below(3);
@@ -54,7 +58,7 @@ impl Job for TextToRows {
 
     fn check(&self, left: &TextToRows, outcome: Outcome, _: &mut Random) -> Result<(), String> {
         match outcome {
-            BadLine(line) => must(bad_line(&self.text) == Some(line), "the first bad line"),
+            InText(told) => must(fault(&self.text) == Some(told), "the first bad byte"),
             Made(columns) => self.check_way_back(&left.cdm[..columns], &left.cds[..columns]),
             _ => Ok(()),
         }
