@@ -2,7 +2,8 @@
 //! crates that hold some of them, and the linked program on these and on texts
 //! from seeds.
 
-use crate::generate::{texts::recorded_text, Random};
+use crate::generate::texts::{each, recorded_text, IN_COLUMN, IN_HEADER};
+use crate::generate::Random;
 use model::{build_read, build_write, index, rows_to_text, run, Outcome::Made};
 use std::fs;
 use std::io::Write;
@@ -19,6 +20,11 @@ struct Input {
 
 const READ_COLUMNS: usize = 46;
 const LIMIT: usize = 4096;
+/// Columns of a text that the program reads in several pieces.
+const LONG: usize = 20_000;
+/// Where a long text gets a fault: the last line of the first piece and the first
+/// of the second, of 16,396 bytes each, then one of the fourth.
+const LINES: [usize; 3] = [4_098, 4_099, 15_000];
 
 fn input(name: &str, opening: Option<usize>, stdin: Vec<u8>) -> Input {
     Input { name: name.to_string(), opening, stdin }
@@ -29,8 +35,7 @@ fn input(name: &str, opening: Option<usize>, stdin: Vec<u8>) -> Input {
 fn held() -> Vec<Input> {
     vec![
         input("index", None, text(&bench_row(14, 1))),
-        input("index_bad_byte", None, spoiled(text(&busy_row(LIMIT)), 812)),
-        input("index_bad_behind", None, spoiled(lines(20_000), 15_000)),
+        faulty("index_bad_behind", LONG, 15_000, (15, 1)),
     ]
 }
 
@@ -93,10 +98,34 @@ fn lines(columns: usize) -> Vec<u8> {
     [&b"cdm\tcds\n"[..], &b"0\t0\n".repeat(columns)].concat()
 }
 
-/// A text with a wrong first byte in a line, counted from 1.
-fn spoiled(mut text: Vec<u8>, line: usize) -> Vec<u8> {
-    text[8 + 4 * (line - 2)] = b'2';
-    text
+/// Every fault that a text can have: in the header, on a line of a short text and
+/// on lines of a long one.
+fn faulty_inputs() -> Vec<Input> {
+    let at = |columns, line, fault: (u8, usize)| {
+        let (number, byte) = fault;
+        let name = format!("{number} on line {line} of {columns} columns, byte {byte}");
+        faulty(&name, columns, line, fault)
+    };
+    let header = each(IN_HEADER).into_iter().map(|fault| at(3, 1, fault));
+    let short = each(IN_COLUMN).into_iter().map(|fault| at(3, 3, fault));
+    let on_line = |line| each(IN_COLUMN).into_iter().map(move |fault| at(LONG, line, fault));
+    header.chain(short).chain(LINES.into_iter().flat_map(on_line)).collect()
+}
+
+/// A text of so many columns with one fault, a number at a byte of a line: a
+/// blank stands there or, for 17, the text ends.
+fn faulty(name: &str, columns: usize, line: usize, (number, byte): (u8, usize)) -> Input {
+    let mut stdin = lines(columns);
+    let place = if line == 1 { byte } else { 4 * line + byte };
+    if number == 17 {
+        stdin.truncate(place);
+    } else {
+        stdin[place] = b' ';
+    }
+    let input = input(name, None, stdin);
+    let wanted = format!("refused\t{number}\t{line}\t{byte}\n");
+    assert_eq!(input.report(), wanted.as_bytes(), "{name}");
+    input
 }
 
 impl Input {
@@ -191,7 +220,7 @@ pub fn agree(crates: &Path) -> bool {
 /// and on the texts of so many seeds.
 pub fn linked(program: &str, texts: u64) -> bool {
     let mut random = Random::from_seed(0);
-    let inputs: Vec<_> = held().into_iter().chain(named()).collect();
+    let inputs: Vec<_> = held().into_iter().chain(named()).chain(faulty_inputs()).collect();
     let good = inputs.iter().all(|input| input.agrees(program, &mut random))
         && (0..texts).all(|seed| {
             let mut random = Random::from_seed(seed);

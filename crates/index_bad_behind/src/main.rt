@@ -1,4 +1,4 @@
-// The indexing program: 20,000 columns and a bad line past the limit, in a later piece.
+// The indexing program: 20,000 columns and a tab missing past the limit, in a later piece.
 fn main() {
     intake::index();
 }

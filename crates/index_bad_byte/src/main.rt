@@ -1,4 +1,0 @@
-// The indexing program: a bad byte on line 812.
-fn main() {
-    intake::index();
-}
