@@ -1,7 +1,7 @@
 -- The number loses nothing: an end that has room in its code is read back from it. (The end of every call has: Room.) So too the number of a
 -- channel: two channels of one number are the same. Assumes nothing.
 use mathlib.Core.Path.{_≡_, refl, sym, ap, _∙_}
-use Prim.Native.Nat.{ℕ, _+_, _-_, _^_, _<_, min}
+use Prim.Native.Nat.{ℕ, zero, suc, _+_, _-_, _*_, _/_, _%_, _^_, _≤_, _<_, min}
 use native.Mathlib.Omega.{arith}
 use borrow.Author.Tests.{lt-ltb, le-ltb, ltb-true, ltb-false}
 use lib.Dec.{ltb}
@@ -13,24 +13,27 @@ use Rattle.channels.specs.Channel.{channelOf}
 use Rattle.channels.specs.declared.SlaveId.{SlaveId}
 use Rattle.channels.specs.declared.Channel.{Channel}
 use Rattle.channels.specs.declared.Channel.the-variants as Channels
-use Rattle.biss.specs.Coded.{code, decode, Fits, channelCode, Coded}
+use Rattle.biss.specs.Coded.{code, decodeDetail, decode, Fits, channelCode, Coded}
+
+on-it : (line byte : ℕ) → 1 ≤ line → decodeDetail line byte ≡ on-line line byte
+on-it zero byte h = absurd (omega arith)
+on-it (suc line) byte h = refl
 
 pub decode-code : (e : Ending) → Fits e → decode (code e) ≡ e
 unfolding code decode
 decode-code (made n) h = rw (lt-ltb n (2 ^ 63) h)
 decode-code (refused (refusal k alone)) h =
-    let back : 2 ^ 63 + k - 2 ^ 63 ≡ k = omega arith in
-    rw (le-ltb (2 ^ 63 + k) (2 ^ 63) (omega arith), lt-ltb (2 ^ 63 + k) (2 ^ 63 + 2 ^ 62) (omega arith), back)
-decode-code (refused (refusal k (on-line l))) h =
-    let whole : min l (2 ^ 62 - 1) ≡ l = omega arith in
-    let back : 2 ^ 63 + 2 ^ 62 + l - (2 ^ 63 + 2 ^ 62) ≡ l = omega arith in
-    rw (
-      whole,
-      le-ltb (2 ^ 63 + 2 ^ 62 + l) (2 ^ 63) (omega arith),
-      le-ltb (2 ^ 63 + 2 ^ 62 + l) (2 ^ 63 + 2 ^ 62) (omega arith),
-      back,
-      h .0,
-    )
+    let n : ℕ = 2 ^ 63 + k in
+    let line : n / 2 ^ 9 % 2 ^ 53 ≡ 0 = omega arith in
+    let number : n % 2 ^ 6 ≡ k = omega arith in
+    rw (le-ltb n (2 ^ 63) (omega arith), line, number)
+decode-code (refused (refusal k (on-line l b))) h =
+    let whole : min l (2 ^ 53 - 1) ≡ l = omega arith in
+    let n : ℕ = 2 ^ 63 + 2 ^ 9 * l + 2 ^ 6 * b + k in
+    let line : n / 2 ^ 9 % 2 ^ 53 ≡ l = omega arith in
+    let byte : n / 2 ^ 6 % 2 ^ 3 ≡ b = omega arith in
+    let number : n % 2 ^ 6 ≡ k = omega arith in
+    rw (whole, le-ltb n (2 ^ 63) (omega arith), line, byte, number, on-it l b (h .1))
 
 -- So two ends of one number are the same, and what a call returns is read as the end that its job promises.
 code-lossless : (a b : Ending) → Fits a → Fits b → code a ≡ code b → a ≡ b
@@ -44,7 +47,7 @@ decode-call call h = ap decode (call .coded) ∙ decode-code (told (call .end)) 
 abbrev Held : Channel → Type 0
 Held (Channels.Place place) = (0 < place .0) × (place .0 < 2 ^ 63)
 Held Channels.Absent = Unit {0}
-Held (Channels.Refused k) = k < 2 ^ 62
+Held (Channels.Refused k) = k < 2 ^ 6
 
 channel-lossless : (a b : Channel) → Held a → Held b → channelCode a ≡ channelCode b → a ≡ b
 unfolding channelCode code

@@ -1,5 +1,5 @@
--- The end of every call has room in its code: a lent buffer has fewer than 2 ^ 63 bytes, a refusal's number is a small one, and a text has
--- four bytes to a line, so no bad line's number comes to 2 ^ 62. Assumes nothing.
+-- The end of every call has room in its code: a lent buffer has fewer than 2 ^ 63 bytes, a refusal's number is a small one, and of a text of
+-- fewer than 2 ^ 55 bytes, four to a line, no line's number comes to 2 ^ 53. Assumes nothing.
 use mathlib.Core.Path.{_≡_, refl}
 use mathlib.Core.Bool.{true, false}
 use mathlib.Core.List.{List, [], _∷_}
@@ -12,10 +12,10 @@ use Rattle.protocol.specs.Limits.{columnLimit}
 use Rattle.protocol.specs.Building.{Request}
 use Rattle.protocol.specs.Layout.{current, listBytes, entriesIn}
 use Rattle.protocol.specs.Text.{rowsText, cdmOf, listText}
-use Rattle.protocol.specs.Fault.{textFault, faultLine}
+use Rattle.protocol.specs.Fault.{Fault, textFault}
 use Rattle.laws.proofs.Every.{IfAny}
 use Rattle.protocol.proofs.Codec.{length-list}
-use Rattle.protocol.proofs.Fault.{line-low}
+use Rattle.protocol.proofs.Fault.{Low, text-low}
 use Rattle.job.specs.Refusals.{Refusal, Rule, when, found, first, refused, ending, told, Lent, Ended}
 use Rattle.job.specs.Rows.{rowRules, wrongRow, wrongRows}
 use Rattle.job.specs.declared.Outcome.{Outcome}
@@ -33,7 +33,7 @@ use Rattle.biss.specs.Coded.{Fits}
 -- Every refusal that some rules can give has room ..
 abbrev Roomy : List Rule → Type 0
 Roomy [] = Unit {0}
-Roomy (when condition n ∷ rules) = (n < 2 ^ 62) × Roomy rules
+Roomy (when condition n ∷ rules) = (n < 2 ^ 6) × Roomy rules
 Roomy (found label f ∷ rules) = IfAny (λ (r : Refusal). Fits (refused r)) f × Roomy rules
 
 -- .. and so has what they end in, if the count has.
@@ -86,13 +86,13 @@ unfolding listRefusals
 list-printed-fits list {out} printed h =
     end-fits printed (omega arith) (λ e. let fits : length (listText (entriesIn current list)) ≤ length out = ltb-false _ _ (no 9 _ e) in omega arith)
 
-form-fits : (fault : Option ℕ) → faultLine fault < 2 ^ 62 → IfAny (λ (r : Refusal). Fits (refused r)) (badForm fault)
-form-fits none h = tt
-form-fits (some at) h = (refl, h)
+form-fits : (fault : Option Fault) {bytes : ℕ} → bytes < 2 ^ 55 → IfAny (Low bytes) fault → IfAny (λ (r : Refusal). Fits (refused r)) (badForm fault)
+form-fits none h low = tt
+form-fits (some f) h low = omega arith
 
 pub taken-fits : {text cdm cds : List ℕ} {outcome : Outcome} {cdm′ cds′ : List ℕ} → RowsTaken text cdm cds outcome cdm′ cds′
-    → length text < 2 ^ 63 → Fits (told outcome)
+    → length text < 2 ^ 55 → Fits (told outcome)
 unfolding textRefusals textRoom
 taken-fits {text} taken h =
-    end-fits (taken .ends) (form-fits (textFault text) (omega (arith, line-low text)), omega arith)
+    end-fits (taken .ends) (form-fits (textFault text) h (text-low text), omega arith)
     (λ e. let short : length (cdmOf text) ≤ columnLimit = ltb-false _ _ (no 5 _ e) in omega arith)

@@ -1,36 +1,41 @@
 -- How the end of a call is one number, for C and Rust, and how that is read back. Paper 01, Numbers of refusal: "A refusal returns its
--- number (11 also a line, counted from 1) .. Success returns how many columns, bytes or entries were made".
+-- number .. and changes no lent byte. Success returns how many columns, bytes or entries were made". So what is told beside the number stands
+-- in the same 64 bits:
+--
+--   bit   63   62   61 .. 9                         8 .. 6      5 .. 0
+--         0    how many were made
+--         1    0    line, from 1; 0 for none        byte        number
 use mathlib.Core.Path.{_≡_}
 use mathlib.Core.Bool.{cond}
-use Prim.Native.Nat.{ℕ, _+_, _-_, _^_, _<_, min}
+use Prim.Native.Nat.{ℕ, zero, suc, _+_, _-_, _*_, _/_, _%_, _^_, _≤_, _<_, min}
 use lib.Dec.{ltb}
-use Rattle.job.specs.Refusals.{alone, on-line, refusal, Ending, made, refused, told}
+use Rattle.job.specs.Refusals.{Detail, alone, on-line, refusal, Ending, made, refused, told}
 use Rattle.job.specs.declared.Outcome.{Outcome}
 use Rattle.channels.specs.declared.Channel.{Channel}
 use Rattle.channels.specs.declared.Channel.the-variants as Channels
 
--- The one number that has a line, so that the line stands in its place.
-abbrev pub lineNumber : ℕ
-lineNumber = 11
-
--- How many were made; 2 ^ 63 and the refusal's number; with a line, 2 ^ 63 + 2 ^ 62 and the line, or the highest that has room.
+-- Each part on its bits; of a line past the last that has room, that one.
 unfoldable pub code : Ending → ℕ
 code (made count) = count
 code (refused (refusal number alone)) = 2 ^ 63 + number
-code (refused (refusal number (on-line line))) = 2 ^ 63 + 2 ^ 62 + min line (2 ^ 62 - 1)
+code (refused (refusal number (on-line line byte))) = 2 ^ 63 + 2 ^ 9 * min line (2 ^ 53 - 1) + 2 ^ 6 * byte + number
 
--- .. and back, by the bits 63 and 62.
+-- What is told beside a number, by the bits of the line and the byte: lines count from 1, so that 0 is none ..
+abbrev pub decodeDetail : (line byte : ℕ) → Detail
+decodeDetail zero byte = alone
+decodeDetail (suc line) byte = on-line (suc line) byte
+
+-- .. and all of it, read back.
 unfoldable pub decode : ℕ → Ending
 decode returned =
     cond (ltb returned (2 ^ 63)) (made returned)
-    (cond (ltb returned (2 ^ 63 + 2 ^ 62)) (refused (refusal (returned - 2 ^ 63) alone))
-    (refused (refusal lineNumber (on-line (returned - (2 ^ 63 + 2 ^ 62))))))
+    (refused (refusal (returned % 2 ^ 6) (decodeDetail (returned / 2 ^ 9 % 2 ^ 53) (returned / 2 ^ 6 % 2 ^ 3))))
 
--- What each part of a code has room for: a count and a refusal below the bit that the next one stands on, a line below 2 ^ 62.
+-- What each part of a code has room for.
 abbrev pub Fits : Ending → Type 0
 Fits (made count) = count < 2 ^ 63
-Fits (refused (refusal number alone)) = number < 2 ^ 62
-Fits (refused (refusal number (on-line line))) = (number ≡ lineNumber) × (line < 2 ^ 62)
+Fits (refused (refusal number alone)) = number < 2 ^ 6
+Fits (refused (refusal number (on-line line byte))) = (number < 2 ^ 6) × (1 ≤ line) × (line < 2 ^ 53) × (byte < 2 ^ 3)
 
 -- A channel place counts from 1, so that 0 says that the chain has no slave of that ID; a refusal as of a job.
 unfoldable pub channelCode : Channel → ℕ

@@ -1,6 +1,6 @@
 // The jobs as C and Rust call them: numbers, and a slice as a pointer and a length. Each returns one number: how many columns, bytes
-// or entries were made, or 2 ^ 63 and the number of the refusal; for a text's bad line, 2 ^ 63 + 2 ^ 62 and the line. Beside them the
-// channel place of a slave.
+// or entries were made, or 2 ^ 63 and the number of the refusal; for what is wrong with a text also its line, times 512, and its byte in
+// that line, times 64. Beside them the channel place of a slave.
 ghost use mathlib.Core.Path.{_≡_};
 ghost use Prim.Native.Nat.{_≤_, min};
 ghost use Rattle.protocol.specs.Building.{Request};
@@ -20,11 +20,13 @@ use job::Outcome;
 // What a refusal's number stands on, 2 ^ 63: no count is as high.
 const REFUSED: u64 = 9223372036854775808;
 
-// What the line of refusal 11 stands on, 2 ^ 63 + 2 ^ 62: no other refusal's number is as high.
-const BAD_LINE: u64 = 13835058055282163712;
+// What a refusal's line and byte are counted in: below them its number has room, and below a line its byte.
+const ONE_LINE: u64 = 512;
 
-// The highest line that has room there, 2 ^ 62 - 1: no text is as long.
-const LAST_LINE: u64 = 4611686018427387903;
+const ONE_BYTE: u64 = 64;
+
+// The highest line that has room, 2 ^ 53 - 1: a text of so many lines has 2 ^ 55 bytes.
+const LAST_LINE: u64 = 9007199254740991;
 
 // The master row of a read of `count` registers of the slave `id`, from `address` on.
 #[no_mangle]
@@ -118,7 +120,12 @@ fn coded_refusal(number: u8, beside: Detail) -> u64
 {
     match beside {
         Detail::Alone => REFUSED + number as u64,
-        Detail::OnLine(line) => BAD_LINE + least(line as u64, LAST_LINE),
+        Detail::OnLine(line, byte) => {
+            REFUSED
+                + ONE_LINE * least(line as u64, LAST_LINE)
+                + ONE_BYTE * byte as u64
+                + number as u64
+        }
     }
 }
 

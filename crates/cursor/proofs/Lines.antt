@@ -1,20 +1,20 @@
 -- A text of rows taken byte by byte and line by line, from a place on. Assumes nothing.
 use mathlib.Core.Path.{_≡_, refl, sym, ap, _∙_}
-use mathlib.Core.Bool.{Bool, true, false, not, and-true}
+use mathlib.Core.Bool.{Bool, true, false}
 use mathlib.Core.List.{List, [], _∷_, map}
 use Prim.Native.Nat.{ℕ, zero, suc, _+_, _-_, _*_, _/_, _%_, _≤_, _<_}
 use native.Mathlib.Numerals.{add-one}
 use native.Mathlib.Nat.{zero-add}
 use native.Mathlib.Omega.{arith}
-use borrow.Author.Tests.{le-ltb, lt-ltb, eq-eqb, ne-eqb}
+use borrow.Author.Tests.{lt-ltb, eq-eqb, ne-eqb}
 use lib.Dec.{eqb}
 use lib.ListN.{length, take, drop, getD, length-drop, length-map, drop-of-length-le}
 use lib.Seq.{take-all, drop-cons, drop-drop}
-use Rattle.protocol.specs.Text.{rowsHeader, exactly, bit, has, headerForm, columnForm, begins}
-use Rattle.protocol.specs.Fault.{formAt, stop, isFault}
+use Rattle.protocol.specs.Text.{rowsHeader, exactly, bit, has, lacking, headerForm, columnForm, begins}
+use Rattle.protocol.specs.Fault.{formAt, stop}
 use Rattle.laws.proofs.Every.{tested}
 use Rattle.protocol.proofs.Text.{four, begins-long}
-use Rattle.protocol.proofs.Fault.{stop-low, stop-again, header-forms, column-forms, through}
+use Rattle.protocol.proofs.Stop.{stop-low, stop-again, header-forms, column-forms, through}
 
 -- The form of a line of given bytes, from its byte j on: decided by that byte, or by those behind it, or by none.
 module _ (line text : List ℕ) (j : ℕ) where
@@ -117,11 +117,11 @@ digit-form (suc (suc zero)) h k = refl
 digit-form (suc (suc (suc zero))) h k = absurd (k refl)
 digit-form (suc (suc (suc (suc i)))) h k = refl
 
--- Below the header a text may end at a line's start.
-pub end-fault : (at : ℕ) → 8 ≤ at → not (eqb (at % 4) 0) ≡ isFault at at
-end-fault at h =
-    let same : (at - 8) % 4 ≡ at % 4 = omega arith in
-    rw (eq-eqb at at refl, le-ltb at 8 h, same, ne-eqb at 0 (omega arith), and-true)
+-- The number of a byte that has not its form, in the same words.
+named-number : (line : List ℕ) (i : ℕ) → i < length line → lacking (getD (map exactly line) i bit) ≡ 13
+named-number [] i h = absurd (omega arith)
+named-number (x ∷ line) zero h = refl
+named-number (x ∷ line) (suc i) h = named-number line i (omega arith)
 
-pub not-end : (at end : ℕ) → (at ≡ end → ⊥) → true ≡ isFault at end
-not-end at end h = rw (ne-eqb at end h)
+pub name-number : (place : ℕ) → place < 8 → 13 ≡ lacking (formAt place)
+name-number place h = sym (rw (lt-ltb place 8 h) (named-number rowsHeader place h))

@@ -7,7 +7,7 @@ use native.Mathlib.Omega.{arith}
 use lib.ListN.{drop}
 use denote.Ref.{RefT, now}
 use Rattle.protocol.specs.Text.{Form, begins}
-use Rattle.protocol.specs.Fault.{lineAt, stop, isFault}
+use Rattle.protocol.specs.Fault.{lineAt, byteAt, stop, faultNumber}
 use Rattle.laws.proofs.Unique.{one-result}
 use Rattle.cursor.specs.declared.Cursor.{Cursor}
 
@@ -33,8 +33,11 @@ stop-in-unique piece place a b p q = omega arith
 begins-with-unique : (text line : List ℕ) (a b : Bool) → a ≡ begins (map Form.exactly line) text → b ≡ begins (map Form.exactly line) text → a ≡ b
 begins-with-unique text line a b p q = one-result p q
 
-is-fault-unique : (at end : ℕ) (a b : Bool) → a ≡ isFault at end → b ≡ isFault at end → a ≡ b
-is-fault-unique at end a b p q = one-result p q
-
 line-at-unique : (place a b : ℕ) → a ≡ lineAt place → b ≡ lineAt place → a ≡ b
 line-at-unique place a b p q = one-result p q
+
+byte-at-unique : (place a b : ℕ) → a ≡ byteAt place → b ≡ byteAt place → a ≡ b
+byte-at-unique place a b p q = one-result p q
+
+fault-number-unique : (at end a b : ℕ) → a ≡ faultNumber at end → b ≡ faultNumber at end → a ≡ b
+fault-number-unique at end a b p q = one-result p q

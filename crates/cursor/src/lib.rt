@@ -1,10 +1,11 @@
-// The line walk: where a text of rows leaves its form, from a place of a lent text on, or of a piece that begins anywhere in its text.
+// The line walk: where a text of rows leaves its form, from a place of a lent text on, or of a piece that begins anywhere in its text; and
+// what is told of such a place: number, line and byte.
 ghost use mathlib.Core.Path.{_≡_};
 ghost use mathlib.Core.List.{map, _∷_, []};
 ghost use Prim.Native.Nat.{_+_, _≤_, _<_};
 ghost use lib.ListN.{length, drop};
-ghost use Rattle.protocol.specs.Text.{Form, has, columnForm, begins};
-ghost use Rattle.protocol.specs.Fault.{lineAt, formAt, stop, isFault};
+ghost use Rattle.protocol.specs.Text.{Form, has, lacking, columnForm, begins};
+ghost use Rattle.protocol.specs.Fault.{lineAt, byteAt, formAt, stop, endNumber, faultNumber};
 
 // Text: "header `cdm` TAB `cds` LF, then digit TAB digit LF for each column".
 const NAMES: [u8; HEADER] = *b"cdm\tcds\n";
@@ -181,7 +182,7 @@ fn is_bit(byte: u8) -> bool
     if byte == b'0' { true } else { byte == b'1' }
 }
 
-// The line of a place in a text, from 1.
+// The line of a place in a text, from 1 ..
 pub fn line_at(place: usize) -> usize
     ensures { λ r. ⌜ r ≡ lineAt place ⌝ }
 {
@@ -192,12 +193,51 @@ pub fn line_at(place: usize) -> usize
     }
 }
 
-// Whether a stop at a place of a text with this end is a fault.
-pub fn is_fault(at: usize, end: usize) -> bool
-    ensures { λ r. ⌜ r ≡ isFault at end ⌝ }
+// .. and its byte in that line, from 0.
+pub fn byte_at(place: usize) -> u8
+    ensures { λ r. ⌜ r ≡ byteAt place ⌝ }
 {
-    if at != end {
-        return true;
+    if HEADER <= place {
+        ((place - HEADER) % LINE) as u8
+    } else {
+        place as u8
     }
-    if at < HEADER { true } else { at % LINE != 0 }
+}
+
+// The number of a text that stops at a place and has this end, 0 where nothing is wrong.
+pub fn fault_number(at: usize, end: usize) -> u8
+    ensures { λ r. ⌜ r ≡ faultNumber at end ⌝ }
+{
+    if at == end {
+        end_number(at)
+    } else {
+        byte_number(at)
+    }
+}
+
+// "17 text ends inside any line; an empty text is 13"
+fn end_number(place: usize) -> u8
+    ensures { λ r. ⌜ r ≡ endNumber place ⌝ }
+{
+    if place == 0 {
+        13
+    } else if byte_at(place) == 0 {
+        0
+    } else {
+        17
+    }
+}
+
+// "13 any wrong byte of the header line, below it 14 digit not 0 or 1, 15 tab missing, 16 line feed missing"
+fn byte_number(place: usize) -> u8
+    ensures { λ r. ⌜ r ≡ lacking (formAt place) ⌝ }
+{
+    if place < HEADER {
+        return 13;
+    }
+    match place % LINE {
+        1 => 15,
+        3 => 16,
+        _ => 14,
+    }
 }

@@ -7,19 +7,23 @@ use mathlib.Core.List.{List, map}
 use Prim.Native.Nat.{ℕ, _+_, _*_, _≤_, _<_}
 use native.Mathlib.Omega.{arith}
 use borrow.Author.Tests.{le-ltb}
-use lib.ListN.{length, take}
+use lib.ListN.{length, take, getD}
 use Rattle.protocol.specs.Limits.{restZeros}
 use Rattle.protocol.specs.Bits.{num, rowOf}
 use Rattle.protocol.specs.Layout.{current, entryBytes, listBytes, entriesIn, isList}
 use Rattle.protocol.specs.Account.{account}
 use Rattle.protocol.specs.Replay.{replay, Shows}
 use Rattle.protocol.specs.Late.{FirstFourteen, NoFourteen, fromColumn}
-use Rattle.protocol.specs.Text.{rowsText, listText, cdmOf, cdsOf}
+use Rattle.protocol.specs.Text.{rowsText, listText, has, badLine, cdmOf, cdsOf}
+use Rattle.protocol.specs.Fault.{formAt}
 use Rattle.protocol.proofs.Codec.{bytes-list}
 use Rattle.protocol.proofs.Demands as protocol
 use Rattle.protocol.proofs.Text.{back-and-there}
+use Rattle.protocol.proofs.Fault as told
+use Rattle.protocol.proofs.Fault.{placeOf, faultLine, same-line}
 use Rattle.job.specs.declared.Outcome.{Outcome}
-use Rattle.job.specs.declared.Outcome.the-variants.{Made}
+use Rattle.job.specs.declared.Outcome.the-variants.{Made, Refused}
+use Rattle.job.specs.declared.Detail.the-variants.{OnLine}
 use Rattle.job.proofs.Refusals.{ended-none}
 use Rattle.run.specs.Run.{memoriesOf, registersOf, Ran}
 use Rattle.read.specs.Read.{listOf, Listed}
@@ -31,7 +35,7 @@ use Rattle.demands.specs.Lent.{areBytes, listIn, kindAt, isBreach, Diffe
 use Rattle.demands.proofs.Chains.{all-alike}
 use Rattle.demands.proofs.Lists.{list-count, list-bytes, list-entries, list-empty, list-late, list-never, no-breach-at}
 use Rattle.demands.proofs.Answers.{row-bytes, rows-read, row-account, row-shows, row-replay}
-use Rattle.demands.proofs.Texts.{rows-taken, printed-back, printed-taken}
+use Rattle.demands.proofs.Texts.{rows-taken, was-told, printed-back, printed-taken}
 
 -- A run that was accepted, on registers lent as bytes, and the list that read made of the master row and the answer row alone.
 module _ {slaves c n : ℕ} {rights registers cdm cds registers′ cds′ lent after : List ℕ} (bytes : areBytes registers ≡ true)
@@ -106,6 +110,18 @@ rows-come-back cdm cds printed rows room room′ =
 pub text-is-rows : {text a b a′ b′ : List ℕ} {c : ℕ} → RowsTaken text a b (Made c) a′ b′ → text ≡ rowsText (take c a′) (take c b′)
 text-is-rows {text} rows =
     let there = rows-taken rows in rw (there .cdm-there, there .cds-there) (back-and-there text (there .good))
+
+-- Request 01, "Tell us what is wrong with the line", of a text that text to rows refuses with a line: it is the first bad line of the text;
+-- "the first bad byte decides", so that every byte before the place told has its form, and the byte there, if there is one, has not.
+module _ {text a b a′ b′ : List ℕ} {number line byte : ℕ} (refused : RowsTaken text a b (Refused number (OnLine line byte)) a′ b′) where
+  pub first-bad-line : line ≡ badLine text
+  first-bad-line = sym (ap faultLine (was-told refused)) ∙ same-line text
+
+  pub good-before : (i : ℕ) → i < placeOf line byte → (i < length text) × (has (formAt i) (getD text i 0) ≡ true)
+  good-before = told.good-before text _ (was-told refused)
+
+  pub bad-there : (i : ℕ) → i ≡ placeOf line byte → i < length text → has (formAt i) (getD text i 0) ≡ false
+  bad-there = told.bad-there text _ (was-told refused)
 
 -- Text to rows, read and list to text, one after the other on any text, as a program does that indexes a recording.
 module _ {text a b a′ b′ lent list room out : List ℕ} {c k n p : ℕ} (rows : RowsTaken text a b (Made c) a′ b′)

@@ -160,9 +160,9 @@ one-told (Made n) (Made m) e = cc
 one-told (Made n) (Refused k d) e = cc
 one-told (Refused k d) (Made n) e = cc
 one-told (Refused k Alone) (Refused m Alone) e = cc
-one-told (Refused k Alone) (Refused m (OnLine l)) e = cc
-one-told (Refused k (OnLine l)) (Refused m Alone) e = cc
-one-told (Refused k (OnLine l)) (Refused m (OnLine j)) e = cc
+one-told (Refused k Alone) (Refused m (OnLine l b)) e = cc
+one-told (Refused k (OnLine l b)) (Refused m Alone) e = cc
+one-told (Refused k (OnLine l b)) (Refused m (OnLine j d)) e = cc
 
 -- A buffer as it was lent.
 abbrev pub unchanged : Lent → List ℕ

@@ -12,12 +12,13 @@ use Rattle.job.specs.declared.Outcome.the-variants.{Made, Refused}
 use Rattle.job.specs.declared.Detail as Code
 use Rattle.job.specs.declared.Detail.the-variants.{Alone, OnLine}
 
--- What is told beside a refusal's number: nothing; or a line, "counted from 1".
+-- What is told beside a refusal's number: nothing; or a line, "counted from 1", and (request 01) "the place in the line as well, counted in
+-- bytes from 0".
 pub data Detail : Type 0 where
   alone : Detail
-  on-line : (line : ℕ) → Detail
+  on-line : (line byte : ℕ) → Detail
 
--- "A refusal returns its number (11 also a line, counted from 1)".
+-- "A refusal returns its number", and what is told beside it.
 pub data Refusal : Type 0 where
   refusal : (number : ℕ) → Detail → Refusal
 
@@ -51,7 +52,7 @@ ending (some r) count = refused r
 -- This paper's number and values for each case of what the code returns: what is told beside the number ..
 abbrev pub detail : Code.Detail → Detail
 detail Alone = alone
-detail (OnLine line) = on-line line
+detail (OnLine line byte) = on-line line byte
 
 -- .. and the end.
 abbrev pub told : Outcome → Ending

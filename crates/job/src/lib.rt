@@ -25,8 +25,8 @@ pub enum Outcome {
 pub enum Detail {
     // Nothing.
     Alone,
-    // A line of a text, counted from 1.
-    OnLine(usize),
+    // A line of a text, counted from 1, and a byte of that line, counted from 0.
+    OnLine(usize, u8),
 }
 
 // 5, 6 or 7 for two rows, or 0 where they are refused by none of them.

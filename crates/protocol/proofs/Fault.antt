@@ -1,122 +1,69 @@
--- A text by its places: line and byte lose nothing, the stop line by line and piece by piece, and the line of a fault is the first bad
--- line. Assumes nothing.
+-- What is told of a text: line and byte lose nothing of a place; nothing is told exactly where no line is bad, and the line told is the
+-- first bad one; every byte before the place told has its form; and only 13 to 17 are told. Assumes nothing.
 use mathlib.Core.Path.{_≡_, refl, sym, ap, _∙_}
-use mathlib.Core.Bool.{true, false, cond, false≢true}
-use mathlib.Core.List.{List, [], _∷_, _++_, map}
-use mathlib.Core.Option.{Option, none, some}
-use Prim.Native.Nat.{ℕ, suc, _+_, _-_, _*_, _/_, _%_, _≤_, _<_}
-use native.Mathlib.Nat.{add-zero}
+use mathlib.Core.Bool.{true, false, cond}
+use mathlib.Core.List.{List, [], _∷_}
+use mathlib.Core.Option.{Option, none, some, Option·none-ne-some}
+use Prim.Native.Nat.{ℕ, zero, suc, _+_, _-_, _*_, _/_, _%_, _≤_, _<_, max}
+use native.Mathlib.Nat.{add-zero, zero-add}
 use native.Mathlib.Omega.{arith}
-use borrow.Author.Tests.{lt-ltb, le-ltb, eq-eqb, ne-eqb, ltb-false, eqb-true}
+use borrow.Author.Tests.{lt-ltb, le-ltb, eq-eqb, ne-eqb, ltb-true, ltb-false, eqb-true}
 use lib.Dec.{ltb, eqb}
 use lib.ListN.{length, drop, getD, length-drop}
-use Rattle.protocol.specs.Entries.{bytes}
-use Rattle.protocol.specs.Text.{Form, bit, has, headerForm, columnForm, begins, fault, firstBad, badLine}
-use Rattle.protocol.specs.Fault.{lineAt, byteAt, formAt, stop, isFault, faultAt, textFault, faultLine}
-use Rattle.laws.proofs.Every.{either, tested, both}
+use Rattle.protocol.specs.Text.{Form, exactly, bit, a-tab, a-feed, has, lacking, headerForm, columnForm, begins, fault, firstBad, badLine}
+use Rattle.protocol.specs.Fault.{headerLength, lineLength, lineAt, byteAt, formAt, stop, Fault, faultNumber, faultBy, faultAt, textFault}
+use Rattle.laws.proofs.Every.{IfAny, either, tested}
 use Rattle.protocol.proofs.Text.{begins-long}
+use Rattle.protocol.proofs.Stop.{stop-low, Forms, header-forms, column-forms, through, within, before-stop, at-stop}
 
--- A place comes back from its line and its byte.
-pub place-back : (p : ℕ) → cond (eqb (lineAt p) 1) (byteAt p) (4 * lineAt p + byteAt p) ≡ p
+-- The place of a byte of a line in its text, and that a place comes back from its line and its byte.
+abbrev pub placeOf : (line byte : ℕ) → ℕ
+placeOf line byte = cond (eqb line 1) byte (headerLength + lineLength * (line - 2) + byte)
+
+pub place-back : (p : ℕ) → placeOf (lineAt p) (byteAt p) ≡ p
 place-back p =
     tested (ltb p 8) (λ q. rw q)
     (λ q. let below : 8 ≤ p = ltb-false p 8 q in rw (q, ne-eqb (2 + (p - 8) / 4) 1 (omega arith)) (omega arith))
 
--- A stop lies in the text or at its end.
-pub stop-low : (p : ℕ) (text : List ℕ) → (p ≤ stop p text) × (stop p text ≤ p + length text)
-unfolding stop
-stop-low p [] = omega arith
-stop-low p (b ∷ text) =
-    tested (has (formAt p) b) (λ q. rw q (omega (arith, stop-low (p + 1) text))) (λ q. rw q (omega arith))
-
--- Below the header the form repeats itself, line by line.
-form-again : (p n : ℕ) → 8 ≤ p → formAt (p + 4 * n) ≡ formAt p
-form-again p n h =
-    let same : (p + 4 * n - 8) % 4 ≡ (p - 8) % 4 = omega arith in
-    rw (le-ltb p 8 h, le-ltb (p + 4 * n) 8 (omega arith), same)
-
-pub stop-again : (p n : ℕ) (text : List ℕ) → 8 ≤ p → stop (p + 4 * n) text ≡ stop p text + 4 * n
-unfolding stop
-stop-again p n [] h = refl
-stop-again p n (b ∷ text) h =
-    let on : p + 4 * n + 1 ≡ p + 1 + 4 * n = omega arith in
-    rw (form-again p n h)
-    (tested (has (formAt p) b) (λ q. rw (q, on, stop-again (p + 1) n text (omega arith))) (λ q. rw q))
-
--- A text in pieces, each of which may begin anywhere: one that keeps its form leaves the stop to what comes behind it, any other has it.
-module _ (rest : List ℕ) where
-  pub stop-pieces : (p : ℕ) (piece : List ℕ) → stop p piece ≡ p + length piece → stop p (piece ++ rest) ≡ stop (p + length piece) rest
-  unfolding stop
-  stop-pieces p [] e = rw add-zero
-  stop-pieces p (b ∷ piece) e =
-      let on : p + suc (length piece) ≡ p + 1 + length piece = omega arith in
-      tested (has (formAt p) b)
-      (λ q. let behind = rw q at e in rw (q, on) (stop-pieces (p + 1) piece (behind ∙ on)))
-      (λ q. absurd (let here = rw q at e in omega arith))
-
-  pub stop-first : (p : ℕ) (piece : List ℕ) → stop p piece < p + length piece → stop p (piece ++ rest) ≡ stop p piece
-  unfolding stop
-  stop-first p [] h = absurd (omega arith)
-  stop-first p (b ∷ piece) h =
-      tested (has (formAt p) b)
-      (λ q. let behind = rw q at h in rw q (stop-first (p + 1) piece (omega arith)))
-      (λ q. rw q)
-
--- The bytes from a place on have these forms.
-abbrev pub Forms : List Form → (place : ℕ) → Type 0
-Forms [] p = Unit {0}
-Forms (f ∷ form) p = (formAt p ≡ f) × Forms form (p + 1)
-
--- So have those of the header, and those of a column's line.
-pub header-forms : Forms headerForm 0
-header-forms = (refl, (refl, (refl, (refl, (refl, (refl, (refl, (refl, tt))))))))
-
-pub column-form : (p i : ℕ) → 8 ≤ p → p % 4 ≡ i → formAt p ≡ getD columnForm i bit
-column-form p i h e = let there : (p - 8) % 4 ≡ i = omega arith in rw (le-ltb p 8 h, there)
-
-pub column-forms : (p : ℕ) → 8 ≤ p → p % 4 ≡ 0 → Forms columnForm p
-column-forms p h e = (
-  column-form p 0 h (omega arith),
-  (
-    column-form (p + 1) 1 (omega arith) (omega arith),
-    (column-form (p + 1 + 1) 2 (omega arith) (omega arith), (column-form (p + 1 + 1 + 1) 3 (omega arith) (omega arith), tt)),
-  ),
-)
-
--- A line that a text begins with leaves the stop to what is behind it; of any other it is within the line.
-pub through : (form : List Form) (p : ℕ) → Forms form p → (text : List ℕ) → begins form text ≡ true
-    → stop p text ≡ stop (p + length form) (drop (length form) text)
-unfolding stop begins
-through [] p fs text h = rw add-zero
-through (f ∷ form) p fs [] h = absurd (false≢true h)
-through (f ∷ form) p fs (b ∷ text) h =
-    let parts = both (has f b) (begins form text) h in
-    let on : p + suc (length form) ≡ p + 1 + length form = omega arith in
-    rw (fs .0, parts .0, on) (through form (p + 1) (fs .1) text (parts .1))
-
-within : (form : List Form) (p : ℕ) → Forms form p → (text : List ℕ) → begins form text ≡ false → stop p text < p + length form
-unfolding stop begins
-within [] p fs text h = absurd (false≢true (sym h))
-within (f ∷ form) p fs [] h = omega arith
-within (f ∷ form) p fs (b ∷ text) h =
-    rw (fs .0)
-    (tested (has f b) (λ q. let behind = rw q at h in rw q (omega (arith, within form (p + 1) (fs .1) text behind)))
-    (λ q. rw q (omega arith)))
+-- A byte that has not its form is refused by 13 to 16.
+lacking-within : (f : Form) → (13 ≤ lacking f) × (lacking f ≤ 16)
+lacking-within (exactly x) = omega arith
+lacking-within bit = omega arith
+lacking-within a-tab = omega arith
+lacking-within a-feed = omega arith
 
 -- No text may end in its header, or inside a column's line, whose number its places have.
-pub in-header : (s end : ℕ) → s < 8 → isFault s end ≡ true
+in-header : (s end : ℕ) → s < 8 → 0 < faultNumber s end
 in-header s end h =
-    tested (eqb s end) (λ e. rw (e, lt-ltb s 8 h) (tested (eqb s 0) (λ q. rw q) (λ q. rw q))) (λ e. rw e)
+    tested (eqb s end)
+    (λ e. rw (e, lt-ltb s 8 h) (tested (eqb s 0) (λ q. rw q (omega arith)) (λ q. rw q (omega arith))))
+    (λ e. rw e (omega (arith, lacking-within (formAt s))))
 
 module _ (n s end : ℕ) (after : 8 + 4 * n ≤ s) (before : s < 12 + 4 * n) where
-  in-line : 8 + 4 * n < end → isFault s end ≡ true
+  in-line : 8 + 4 * n < end → 0 < faultNumber s end
   in-line h =
       tested (eqb s end)
-      (λ e. let last = eqb-true s end e in rw (e, le-ltb s 8 (omega arith), ne-eqb ((s - 8) % 4) 0 (omega arith)))
-      (λ e. rw e)
+      (λ e.
+      let last = eqb-true s end e in
+      rw (e, ne-eqb s 0 (omega arith), le-ltb s 8 (omega arith), ne-eqb ((s - 8) % 4) 0 (omega arith)) (omega arith))
+      (λ e. rw e (omega (arith, lacking-within (formAt s))))
 
   line-there : lineAt s ≡ suc (n + 1)
   line-there = rw (le-ltb s 8 (omega arith)) (omega arith)
+
+-- What a number that is not 0 tells.
+pub fault-by : (n p : ℕ) → 0 < n → faultBy n p ≡ some (record { number = n; line = lineAt p; byte = byteAt p })
+fault-by zero p h = absurd (omega arith)
+fault-by (suc n) p h = refl
+
+-- The line that is told, 0 for none.
+abbrev pub faultLine : Option Fault → ℕ
+faultLine none = 0
+faultLine (some f) = f .line
+
+told-line : (s end : ℕ) → 0 < faultNumber s end → faultLine (faultAt s end) ≡ lineAt s
+unfolding faultAt
+told-line s end h = ap faultLine (fault-by (faultNumber s end) s h)
 
 -- What is told of a text from column n on, by its line.
 abbrev told : (n : ℕ) → (text : List ℕ) → ℕ
@@ -136,11 +83,12 @@ module _ (n : ℕ) (text : List ℕ) where
       rw (through columnForm p forms text q, on, end)
 
   bad-told : 0 < length text → begins columnForm text ≡ false → told n text ≡ suc (n + 1)
-  unfolding faultAt
   bad-told h q =
+      let s = stop p text in
+      let end : ℕ = p + length text in
       let low = stop-low p text .0 in
-      let high : stop p text < 12 + 4 * n = omega (arith, within columnForm p forms text q) in
-      rw (in-line n (stop p text) (p + length text) low high (omega arith)) (line-there n (stop p text) (p + length text) low high)
+      let high : s < 12 + 4 * n = omega (arith, within columnForm p forms text q) in
+      told-line s end (in-line n s end low high (omega arith)) ∙ line-there n s end low high
 
   cut-told : 0 < length text → length text < 4 → told n text ≡ fault columnForm (n + 1) text
   unfolding fault
@@ -170,56 +118,98 @@ same-line text = tested (begins headerForm text) (λ q.
     ∙ (ap (λ (end : ℕ). faultLine (faultAt (stop 8 (drop 8 text)) end)) long ∙ (lines-told 0 (drop 8 text) ∙ sym (rw q))))
     (λ q.
     let here : stop 0 text < 8 = within headerForm 0 header-forms text q in
-    rw (q, in-header (stop 0 text) (length text) here, lt-ltb (stop 0 text) 8 here))
+    told-line (stop 0 text) (length text) (in-header (stop 0 text) (length text) here) ∙ sym (rw (q, lt-ltb (stop 0 text) 8 here)))
 
 -- So no fault is told exactly where no line is bad.
 line-some : (p : ℕ) → 0 < lineAt p
 line-some p = either (λ n. 0 < n) (ltb p 8) (omega arith) (omega arith)
 
-no-line : (f : Option ℕ) → faultLine f ≡ 0 → f ≡ none
-no-line none e = refl
-no-line (some p) e = absurd (omega (arith, line-some p))
+no-line : (n p : ℕ) → faultLine (faultBy n p) ≡ 0 → faultBy n p ≡ none
+no-line zero p e = refl
+no-line (suc n) p e = absurd (omega (arith, line-some p))
 
 pub nothing-wrong : (text : List ℕ) → textFault text ≡ none → badLine text ≡ 0
 nothing-wrong text e = sym (same-line text) ∙ ap faultLine e
 
 pub nothing-told : (text : List ℕ) → badLine text ≡ 0 → textFault text ≡ none
-nothing-told text e = no-line (textFault text) (same-line text ∙ e)
-
--- A stop before the end is a fault, wherever the end is.
-pub fault-inside : (at end : ℕ) → at < end → faultAt at end ≡ some at
-unfolding faultAt
-fault-inside at end h = rw (ne-eqb at end (omega arith))
-
--- A text's fault, or none, by its stop.
-module _ (text : List ℕ) (at : ℕ) (e : at ≡ stop 0 text) where
-  pub fault-there : isFault at (length text) ≡ true → textFault text ≡ some at
-  unfolding textFault faultAt
-  fault-there q = rw (← e, q)
-
-  pub fault-none : isFault at (length text) ≡ false → textFault text ≡ none
-  unfolding textFault faultAt
-  fault-none q = rw (← e, q)
-
--- Its line: a line has four bytes.
-pub line-low : (text : List ℕ) → faultLine (textFault text) ≤ 1 + length text / 4
 unfolding textFault faultAt
-line-low text =
-    let s = stop 0 text in
-    let low = stop-low 0 text .1 in
-    tested (isFault s (length text))
-    (λ q. rw q (tested (ltb s 8) (λ r. rw r (omega arith)) (λ r. rw r (omega (arith, ltb-false s 8 r)))))
-    (λ q. rw q (omega arith))
+nothing-told text e = no-line (faultNumber (stop 0 text) (length text)) (stop 0 text) (same-line text ∙ e)
 
--- Worked texts: nothing at all; a header cut short, and with a blank for its TAB; a last line cut short at each of its bytes, and
--- each of them wrong; a line feed too many; and good texts.
-texts : List (List ℕ)
-texts =
-    bytes "" ∷ bytes "cdm" ∷ bytes "cdm cds\n" ∷ bytes "cdm\tcds\n0" ∷ bytes "cdm\tcds\n0\t" ∷ bytes "cdm\tcds\n0\t1" ∷ bytes "cdm\tcds\n2\t1\n"
-    ∷ bytes "cdm\tcds\n0 1\n" ∷ bytes "cdm\tcds\n0\t/\n" ∷ bytes "cdm\tcds\n0\t1\r\n" ∷ bytes "cdm\tcds\n0\t1\n\n" ∷ bytes "cdm\tcds\n"
-    ∷ bytes "cdm\tcds\n0\t1\n1\t0\n" ∷ []
+-- The place that is told is the stop ..
+stop-told : (n p : ℕ) (f : Fault) → faultBy n p ≡ some f → placeOf (f .line) (f .byte) ≡ p
+stop-told zero p f e = absurd (Option·none-ne-some f e)
+stop-told (suc n) p f e =
+    let line : f .line ≡ lineAt p = cc in
+    let byte : f .byte ≡ byteAt p = cc in
+    rw (line, byte) (place-back p)
 
-faults-told : map textFault texts
-    ≡ some 0 ∷ some 3 ∷ some 3 ∷ some 9 ∷ some 10 ∷ some 11 ∷ some 8 ∷ some 9 ∷ some 10 ∷ some 11 ∷ some 12 ∷ none ∷ none ∷ []
-unfolding texts textFault faultAt stop
-faults-told = refl
+-- .. so every byte before it has its form, and the byte there has not, if there is one: it is "the first bad byte".
+module _ (text : List ℕ) (f : Fault) (e : textFault text ≡ some f) where
+  told-there : placeOf (f .line) (f .byte) ≡ stop 0 text
+  unfolding textFault faultAt
+  told-there = stop-told (faultNumber (stop 0 text) (length text)) (stop 0 text) f e
+
+  pub good-before : (i : ℕ) → i < placeOf (f .line) (f .byte) → (i < length text) × (has (formAt i) (getD text i 0) ≡ true)
+  good-before i h = rw (zero-add i) at (before-stop 0 text i (rw (zero-add i) (rw told-there at h)))
+
+  pub bad-there : (i : ℕ) → i ≡ placeOf (f .line) (f .byte) → i < length text → has (formAt i) (getD text i 0) ≡ false
+  bad-there i there h = rw (zero-add i) at (at-stop 0 text i (rw (zero-add i) (there ∙ told-there)) h)
+
+-- A stop before the end tells the same, wherever the end is.
+pub fault-inside : (at end other : ℕ) → at < end → at < other → faultAt at end ≡ faultAt at other
+unfolding faultAt
+fault-inside at end other h k = rw (ne-eqb at end (omega arith), ne-eqb at other (omega arith))
+
+-- What is told of a text, by its stop and the number there.
+module _ (text : List ℕ) (at number : ℕ) (e : at ≡ stop 0 text) (n : number ≡ faultNumber at (length text)) where
+  pub fault-of : textFault text ≡ faultBy number at
+  unfolding textFault faultAt
+  fault-of = rw (← e, ← n)
+
+  pub fault-none : number ≡ 0 → textFault text ≡ none
+  fault-none z = fault-of ∙ rw z
+
+-- All that is told is small: a number from 13 to 17, a line of four bytes or the header of eight.
+pub record Low (bytes : ℕ) (f : Fault) : Type 0 where
+  pub number-from : 13 ≤ f .number
+  pub number-low : f .number ≤ 17
+  pub line-from : 1 ≤ f .line
+  pub line-low : f .line ≤ max 1 (bytes / 4)
+  pub byte-low : f .byte < 8
+
+-- .. where 0 stands for none.
+abbrev Within : (number : ℕ) → Type 0
+Within n = (0 < n → 13 ≤ n) × (n ≤ 17)
+
+module _ (p end : ℕ) where
+  number-within : Within (faultNumber p end)
+  number-within =
+      let form = lacking-within (formAt p) in
+      either Within (eqb p end)
+      (either Within (eqb p 0) (λ h. omega arith, omega arith) (either Within (eqb (byteAt p) 0) (λ h. omega arith, omega arith) (λ h. omega arith, omega arith)))
+      (λ h. form .0, omega arith)
+
+  line-low : p ≤ end → lineAt p ≤ max 1 (end / 4)
+  line-low h = tested (ltb p 8) (λ q. rw q (omega arith)) (λ q. rw q (omega (arith, ltb-false p 8 q)))
+
+  byte-low : byteAt p < 8
+  byte-low = tested (ltb p 8) (λ q. rw q (ltb-true p 8 q)) (λ q. rw q (omega arith))
+
+low-by : (n p end : ℕ) → Within n → p ≤ end → IfAny (Low end) (faultBy n p)
+low-by zero p end h k = tt
+low-by (suc n) p end h k =
+    record {
+      number-from = h .0 (omega arith);
+      number-low = h .1;
+      line-from = line-some p;
+      line-low = line-low p end k;
+      byte-low = byte-low p end;
+    }
+
+pub fault-low : (at end : ℕ) → at ≤ end → IfAny (Low end) (faultAt at end)
+unfolding faultAt
+fault-low at end h = low-by (faultNumber at end) at end (number-within at end) h
+
+pub text-low : (text : List ℕ) → IfAny (Low (length text)) (textFault text)
+unfolding textFault
+text-low text = fault-low (stop 0 text) (length text) (omega (arith, stop-low 0 text .1))

@@ -2,13 +2,14 @@
 pub mod Card
 pub mod Drawn
 pub mod Cases
+pub mod Printed
 pub mod Division
 pub mod Words
 pub mod Pieces
 pub mod Codec
 pub mod Text
+pub mod Stop
 pub mod Fault
-pub mod Printed
 pub mod Channels
 pub mod Rest
 pub mod Machine

@@ -1,5 +1,4 @@
--- Text: rows and lists as text, and when a text is of the form that paper 01 gives it (refusal 11).
--- Every text here is its list of bytes.
+-- Text: rows and lists as text, and the form that paper 01 gives a text of rows. Every text here is its list of bytes.
 use mathlib.Core.Bool.{Bool, true, false, cond, _&&_, _||_}
 use mathlib.Core.List.{List, [], _∷_, _++_, map}
 use Prim.Native.Nat.{ℕ, zero, suc, _+_, _/_, _%_}
@@ -38,23 +37,35 @@ columnLines (m ∷ ms) (s ∷ ss) = columnLine m s ++ columnLines ms ss
 unfoldable pub rowsText : (cdm cds : List ℕ) → List ℕ
 rowsText cdm cds = rowsHeader ++ columnLines cdm cds
 
--- What a byte of a line has to be: this byte, or a digit 0 or 1.
+-- What a byte of a line has to be: this byte; or in a column's line a digit 0 or 1, its TAB, its LF.
 pub data Form : Type 0 where
   exactly : ℕ → Form
   bit : Form
+  a-tab : Form
+  a-feed : Form
 
 -- A byte is of a form.
 abbrev pub has : Form → ℕ → Bool
 has (exactly x) b = eqb b x
 has bit b = eqb b (digit 0) || eqb b (digit 1)
+has a-tab b = eqb b tab
+has a-feed b = eqb b feed
+
+-- The number of a byte that has not its form. Request 01: "13 any wrong byte of the header line, below it 14 digit not 0 or 1, 15 tab
+-- missing, 16 line feed missing".
+abbrev pub lacking : Form → ℕ
+lacking (exactly x) = 13
+lacking bit = 14
+lacking a-tab = 15
+lacking a-feed = 16
 
 -- The form of the line of names ..
 abbrev pub headerForm : List Form
 headerForm = map exactly rowsHeader
 
--- .. and of a column's line.
+-- .. and of a column's line: "digit TAB digit LF".
 abbrev pub columnForm : List Form
-columnForm = bit ∷ exactly tab ∷ bit ∷ exactly feed ∷ []
+columnForm = bit ∷ a-tab ∷ bit ∷ a-feed ∷ []
 
 -- A text begins with a whole line of the form; one that stops early does not.
 unfoldable pub begins : List Form → (text : List ℕ) → Bool
@@ -62,8 +73,8 @@ begins [] text = true
 begins (f ∷ fs) [] = false
 begins (f ∷ fs) (b ∷ bs) = has f b && begins fs bs
 
--- "the first bad line", taken line by line (by its places a text is judged in specs/Fault). Of the line that a text begins with: 0 where
--- it has its form, else its number, with so many lines before it.
+-- "text not of the form above; the first bad line", taken line by line (what is told of a text goes by its places: specs/Fault). Of the
+-- line that a text begins with: 0 where it has its form, else its number, with so many lines before it.
 unfoldable pub fault : List Form → (before : ℕ) → (text : List ℕ) → ℕ
 fault form before text = cond (begins form text) 0 (suc before)
 
@@ -81,7 +92,7 @@ firstBad before (a ∷ b ∷ c ∷ []) = fault columnForm before (a ∷ b ∷ c 
 firstBad before (a ∷ b ∷ c ∷ d ∷ text) =
     orElse (fault columnForm before (a ∷ b ∷ c ∷ d ∷ [])) (firstBad (before + 1) text)
 
--- Numbers of refusal: "11 also a line, counted from 1": the header is line 1, also of an empty text; 0 where no line is bad.
+-- .. and of a text: "a line, counted from 1": the header is line 1, also of an empty text; 0 where no line is bad.
 unfoldable pub badLine : (text : List ℕ) → ℕ
 badLine text = orElse (fault headerForm 0 text) (firstBad 1 (drop (length rowsHeader) text))
 

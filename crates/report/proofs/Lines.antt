@@ -1,6 +1,6 @@
 -- A text printed whole, or refused by 9; and the line of a refusal. Assumes nothing.
-use mathlib.Core.Path.{_≡_, sym, _∙_}
-use mathlib.Core.List.{List, _∷_}
+use mathlib.Core.Path.{_≡_, sym, ap, _∙_}
+use mathlib.Core.List.{List, [], _∷_, append-nil}
 use Prim.Native.Nat.{ℕ, _+_, _≤_, _<_, _^_}
 use native.Mathlib.Nat.{zero-add}
 use native.Mathlib.Omega.{arith}
@@ -17,7 +17,7 @@ use Rattle.job.proofs.Refusals.{ended-given}
 use Rattle.print.specs.Laid.{Laid}
 use Rattle.print.proofs.Decimal.{decimal-short}
 use Rattle.print.proofs.Ends.{printed-made}
-use Rattle.print.proofs.Laid.{then, one-byte}
+use Rattle.print.proofs.Laid.{then, renamed, one-byte}
 use Rattle.report.specs.Report.{fields, values, refusedText, Whole}
 
 -- The two ends of a text that is printed whole.
@@ -39,10 +39,16 @@ laid-front {vs} {l} {l′} {n} put h =
 pub twenty : (n : ℕ) → n < 2 ^ 64 → length (decimal n) ≤ 20
 twenty n h = decimal-short 19 n (omega arith)
 
+-- Two numbers, each behind its TAB.
+pub two-fields : (line byte : ℕ) {l l′ l″ : List ℕ} {at p r : ℕ} → Laid (tab ∷ decimal line) at l p l′ → Laid (tab ∷ decimal byte) p l′ r l″
+    → Laid (fields (line ∷ byte ∷ [])) at l r l″
+unfolding fields
+two-fields line byte one two = then one (renamed (ap (λ (l : List ℕ). tab ∷ l) (sym (append-nil (decimal byte)))) two)
+
 -- The line of a refusal, part by part: the word and the number, with room for what is told beside them, and then all of it.
 module _ (number : ℕ) (bits : number < 2 ^ 64) {l l′ l″ : List ℕ} {p q : ℕ} (one : Laid (bytes "refused") 0 l p l′)
     (two : Laid (tab ∷ decimal number) p l′ q l″) where
-  pub number-end : q + 22 ≤ 64
+  pub number-end : q + 43 ≤ 80
   number-end = omega (arith, one .behind, two .behind, twenty number bits)
 
   module _ (beside : Detail) {l‴ : List ℕ} {r : ℕ} (three : Laid (fields (values beside)) q l″ r l‴) where

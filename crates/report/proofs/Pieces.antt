@@ -10,7 +10,8 @@ use Rattle.protocol.specs.Limits.{columnLimit}
 use Rattle.protocol.specs.Text.{cdmOf}
 use Rattle.protocol.specs.Fault.{stop, faultAt, textFault}
 use Rattle.laws.proofs.Every.{looked-up}
-use Rattle.protocol.proofs.Fault.{stop-pieces, stop-first, fault-inside}
+use Rattle.protocol.proofs.Stop.{stop-pieces, stop-first}
+use Rattle.protocol.proofs.Fault.{fault-inside}
 use Rattle.rows_text.proofs.Ends.{columns-in}
 use Rattle.report.specs.Report.{reportText, longReport}
 use Rattle.report.proofs.Rows.{reports-bad, reports-long}
@@ -19,7 +20,7 @@ use Rattle.report.proofs.Rows.{reports-bad, reports-long}
 pub by-fault : (text : List ℕ) (k : ℕ) → columnLimit < length (cdmOf text) → reportText text k ≡ longReport (textFault text)
 unfolding longReport
 by-fault text k h =
-    looked-up (textFault text) (λ e. reports-long text k e h ∙ sym (rw e)) (λ at e. reports-bad text k at e ∙ sym (rw e))
+    looked-up (textFault text) (λ e. reports-long text k e h ∙ sym (rw e)) (λ f e. reports-bad text k f e ∙ sym (rw e))
 
 -- Of what keeps its form and a piece behind it:
 module _ (before piece : List ℕ) (good : stop 0 before ≡ length before) where
@@ -51,4 +52,4 @@ module _ (before piece : List ℕ) (good : stop 0 before ≡ length before) wher
         = omega (arith, columns-in text .0, columns-in (before ++ piece) .0, length-append before piece) in
         let stopped : stop 0 text ≡ stop here piece = on (piece ++ rest) ∙ stop-first rest here piece h in
         let inside : stop here piece < length text = omega arith in
-        by-fault text k longer ∙ ap longReport (rw (stopped, fault-inside _ _ inside, fault-inside _ _ h))
+        by-fault text k longer ∙ ap longReport (rw stopped (fault-inside _ _ _ inside h))

@@ -44,7 +44,7 @@ late-alike text j k p q =
     let late : (i : ℕ) → columnLimit < i → reportText text i ≡ refusedText (refusal 8 alone)
     = λ i h. reports-rows text i good short ∙ reports-late (cdmOf text) (cdsOf text) i (omega arith) in
     late j p ∙ sym (late k q)))
-    (λ at bad. reports-bad text j at bad ∙ sym (reports-bad text k at bad))
+    (λ f bad. reports-bad text j f bad ∙ sym (reports-bad text k f bad))
 
 -- .. so the first of them stands for all: argument's `farthest`, at which it caps the number on the command line, changes no report.
 pub capped-report : (text : List ℕ) (k : ℕ) → reportText text (min k (columnLimit + 1)) ≡ reportText text k

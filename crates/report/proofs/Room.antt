@@ -10,9 +10,9 @@ use lib.ListN.{length, length-append}
 use Rattle.protocol.specs.Limits.{columnLimit}
 use Rattle.protocol.specs.Entries.{Entry}
 use Rattle.protocol.specs.Text.{cdmOf, cdsOf, entryLines}
-use Rattle.protocol.specs.Fault.{lineAt, textFault, faultLine}
-use Rattle.laws.proofs.Every.{Every, tested, looked-up}
-use Rattle.protocol.proofs.Fault.{line-low}
+use Rattle.protocol.specs.Fault.{Fault, faultAt, textFault}
+use Rattle.laws.proofs.Every.{Every, IfAny, tested, looked-up}
+use Rattle.protocol.proofs.Fault.{Low, fault-low, text-low}
 use Rattle.job.specs.Refusals.{alone, on-line, refusal, first}
 use Rattle.job.specs.declared.Outcome.{Outcome}
 use Rattle.job.specs.declared.Outcome.the-variants.{Made}
@@ -45,9 +45,11 @@ number-fits : (why : ℕ) → why < 2 ^ 64 → length (refusedText (refusal why 
 unfolding refusedText fields
 number-fits why h = simp length-append (omega (arith, twenty why h))
 
-line-fits : (line : ℕ) → line < 2 ^ 64 → length (refusedText (refusal 11 (on-line line))) ≤ reportRoom
+fault-fits : (f : Fault) {bytes : ℕ} → bytes < 2 ^ 64 → Low bytes f → length (refusedText (refusal (f .number) (on-line (f .line) (f .byte)))) ≤ reportRoom
 unfolding refusedText fields
-line-fits line h = simp length-append (omega (arith, twenty 11 (omega arith), twenty line h))
+fault-fits f h low =
+    simp length-append
+    (omega (arith, twenty (f .number) (omega arith), twenty (f .line) (omega arith), twenty (f .byte) (omega arith)))
 
 rows-fit : (cdm cds : List ℕ) (k : ℕ) → length cdm ≤ columnLimit → length (rowsReport cdm cds k) ≤ reportRoom
 rows-fit cdm cds k h =
@@ -72,14 +74,13 @@ report-fits text k h =
     (λ r.
     let short : length (cdmOf text) ≤ columnLimit = ltb-false columnLimit (length (cdmOf text)) r in
     rw (reports-rows text k good short) (rows-fit (cdmOf text) (cdsOf text) k short)))
-    (λ at bad.
-    let low = rw bad at (line-low text) in rw (reports-bad text k at bad) (line-fits (lineAt at) (omega arith)))
+    (λ f bad. rw (reports-bad text k f bad) (fault-fits f {bytes = length text} (omega arith) (rw bad at (text-low text))))
 
 -- The same of a text with more columns than a row may have, by its fault.
-long-fits : (fault : Option ℕ) → faultLine fault < 2 ^ 64 → length (longReport fault) ≤ reportRoom
+long-fits : (fault : Option Fault) {bytes : ℕ} → bytes < 2 ^ 64 → IfAny (Low bytes) fault → length (longReport fault) ≤ reportRoom
 unfolding longReport
-long-fits none h = number-fits 5 (omega arith)
-long-fits (some at) h = line-fits (lineAt at) h
+long-fits none h low = number-fits 5 (omega arith)
+long-fits (some f) h low = fault-fits f h low
 
 -- What fits is made.
 module _ (out : List ℕ) (room : reportRoom ≤ length out) {outcome : Outcome} {after : List ℕ} where
@@ -92,6 +93,6 @@ module _ (out : List ℕ) (room : reportRoom ≤ length out) {outcome : Outcome}
       → outcome ≡ Made (length (reportText text k))
   report-made text k h = fits-made (reportText text k) (report-fits text k h)
 
-  pub long-made : (fault : Option ℕ) → faultLine fault < 2 ^ 64 → Whole (longReport fault) out outcome after
-      → outcome ≡ Made (length (longReport fault))
-  long-made fault h = fits-made (longReport fault) (long-fits fault h)
+  pub long-made : (at end : ℕ) → at ≤ end → end < 2 ^ 64 → Whole (longReport (faultAt at end)) out outcome after
+      → outcome ≡ Made (length (longReport (faultAt at end)))
+  long-made at end h k = fits-made (longReport (faultAt at end)) (long-fits (faultAt at end) k (fault-low at end h))

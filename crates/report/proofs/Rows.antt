@@ -1,6 +1,6 @@
 -- What the jobs say that the report calls, in rooms that any result fits. Assumes nothing.
 use mathlib.Core.Path.{_≡_, refl, sym, ap, _∙_}
-use mathlib.Core.Bool.{true, false}
+use mathlib.Core.Bool.{true}
 use mathlib.Core.List.{List, [], _∷_, append-assoc}
 use mathlib.Core.Option.{none, some, orElse}
 use Prim.Native.Nat.{ℕ, _*_, _%_, _≤_, _<_}
@@ -11,7 +11,7 @@ use lib.ListN.{length, take, drop, getD}
 use Rattle.protocol.specs.Limits.{columnLimit}
 use Rattle.protocol.specs.Layout.{current, entryBytes, listBytes, entriesIn, isList}
 use Rattle.protocol.specs.Text.{rowIn, cdmOf, cdsOf, listText}
-use Rattle.protocol.specs.Fault.{lineAt, isFault, faultAt, textFault}
+use Rattle.protocol.specs.Fault.{lineAt, byteAt, Fault, faultNumber, faultAt, textFault}
 use Rattle.laws.proofs.Every.{tested}
 use Rattle.protocol.proofs.Codec.{length-list, entries-back, bytes-list}
 use Rattle.job.specs.Bytes.{noneAbove, areBits}
@@ -19,13 +19,14 @@ use Rattle.job.specs.Refusals.{alone, on-line, refusal, Rule, when, found, firs
 use Rattle.job.specs.Rows.{wrongRows}
 use Rattle.job.specs.declared.Outcome.{Outcome}
 use Rattle.job.specs.declared.Outcome.the-variants.{Made, Refused}
+use Rattle.job.specs.declared.Detail as Code
 use Rattle.job.proofs.Refusals.{no, keeps, passes, same-rules, was-made, was-refused, result-fits, result-first}
 use Rattle.job.proofs.Rows.{right-rows, not-wrong}
 use Rattle.read.specs.Read.{listOf, rowsRefusals, refusals, Listed}
 use Rattle.read.proofs.Left.{length-listed}
 use Rattle.list_text.specs.Lists.{listRefusals, ListPrinted}
 use Rattle.rows_text.specs.RowsText.{badForm, textRoom, textRefusals, RowsTaken}
-use Rattle.rows_text.proofs.Ends.{columns-in, form-good}
+use Rattle.rows_text.proofs.Ends.{columns-in, form-good, form-bad}
 use Rattle.report.specs.Report.{refusedText, printed, reportRefusals, reportText, rowsReport, longReport, Whole}
 
 -- What is printed in each case.
@@ -46,9 +47,9 @@ module _ (cdm cds : List ℕ) (k : ℕ) where
       rw (reports-shown h, ← back) (same-rules printed (rw (ap (isList current) e ∙ bytes-list current (listOf k cdm cds))))
 
 module _ (text : List ℕ) (k : ℕ) where
-  pub reports-bad : (at : ℕ) → textFault text ≡ some at → reportText text k ≡ refusedText (refusal 11 (on-line (lineAt at)))
+  pub reports-bad : (f : Fault) → textFault text ≡ some f → reportText text k ≡ refusedText (refusal (f .number) (on-line (f .line) (f .byte)))
   unfolding reportText reportRefusals printed first orElse
-  reports-bad at e = rw e
+  reports-bad f e = rw e
 
   module _ (good : textFault text ≡ none) where
     pub reports-long : columnLimit < length (cdmOf text) → reportText text k ≡ refusedText (refusal 5 alone)
@@ -59,14 +60,15 @@ module _ (text : List ℕ) (k : ℕ) where
     unfolding reportText reportRefusals rowsReport first orElse
     reports-rows h = rw (good, le-ltb columnLimit (length (cdmOf text)) h)
 
-module _ (at end : ℕ) where
-  pub long-none : isFault at end ≡ false → longReport (faultAt at end) ≡ refusedText (refusal 5 alone)
+module _ (at end number : ℕ) (n : number ≡ faultNumber at end) where
+  pub long-none : number ≡ 0 → longReport (faultAt at end) ≡ refusedText (refusal 5 alone)
   unfolding longReport faultAt
-  long-none q = rw q
+  long-none z = rw (← n, z)
 
-  pub long-bad : isFault at end ≡ true → (line : ℕ) → line ≡ lineAt at → longReport (faultAt at end) ≡ refusedText (refusal 11 (on-line line))
+  pub long-bad : (number ≡ 0 → ⊥) → (beside : Code.Detail) → detail beside ≡ on-line (lineAt at) (byteAt at)
+      → longReport (faultAt at end) ≡ refusedText (refusal number (detail beside))
   unfolding longReport faultAt
-  long-bad q line e = rw (q, e)
+  long-bad h beside d = rw (← n, form-bad number at h beside d)
 
 -- Rows that a text was taken into.
 pub record Rows (text cdm cds : List ℕ) (n : ℕ) : Type 0 where
@@ -85,7 +87,7 @@ Says text cdm cds (Refused number beside) = (k : ℕ) → reportText text k ≡ 
 module _ (text cdm cds : List ℕ) (cdm-room : columnLimit ≡ length cdm) (cds-room : columnLimit ≡ length cds) where
   -- There is room for every row that 5 lets through.
   abbrev form : List Rule
-  form = found 11 (badForm (textFault text)) ∷ when (ltb columnLimit (length (cdmOf text))) 5 ∷ []
+  form = found 13 (badForm (textFault text)) ∷ when (ltb columnLimit (length (cdmOf text))) 5 ∷ []
 
   by-form : first (textRefusals text (length cdm) (length cds)) ≡ first form
   unfolding textRefusals textRoom first orElse
@@ -101,7 +103,7 @@ module _ (text cdm cds : List ℕ) (cdm-room : columnLimit ≡ length cdm) (cds-
       let in-m : m ≡ lentAfter none (lent (cdmOf text) cdm) = cc in
       let in-s : s ≡ lentAfter none (lent (cdsOf text) cds) = cc in
       record {
-        good = form-good (textFault text) (no 11 form none-given);
+        good = form-good (textFault text) (no 13 form none-given);
         short = ltb-false _ _ (no 5 form none-given);
         in-cdm = rw (in-m, done .1) (result-fits (cdmOf text) cdm);
         in-cds = rw (in-s, done .1, both) (result-fits (cdsOf text) cds);

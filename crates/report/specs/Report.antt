@@ -7,7 +7,7 @@ use lib.ListN.{length}
 use Rattle.protocol.specs.Limits.{columnLimit}
 use Rattle.protocol.specs.Entries.{bytes}
 use Rattle.protocol.specs.Text.{tab, feed, decimal, cdmOf, cdsOf, listText}
-use Rattle.protocol.specs.Fault.{textFault}
+use Rattle.protocol.specs.Fault.{Fault, textFault}
 use Rattle.job.specs.Refusals.{Detail, alone, on-line, Refusal, refusal, Rule, when, found, first}
 use Rattle.job.specs.declared.Outcome.{Outcome}
 use Rattle.print.specs.Printed.{Printed}
@@ -26,9 +26,9 @@ fields (n ∷ ns) = tab ∷ decimal n ++ fields ns
 -- What is told beside a refusal's number, as numbers.
 abbrev pub values : Detail → List ℕ
 values alone = []
-values (on-line line) = line ∷ []
+values (on-line line byte) = line ∷ byte ∷ []
 
--- "On a refusal it prints only `refused` TAB number (for 11 TAB line too) LF."
+-- "On a refusal it prints only `refused` TAB number .. LF", and behind the number whatever is told beside it.
 unfoldable pub refusedText : Refusal → List ℕ
 refusedText (refusal number beside) = bytes "refused" ++ fields (number ∷ values beside) ++ feed ∷ []
 
@@ -37,11 +37,11 @@ unfoldable pub printed : Option Refusal → (cdm cds : List ℕ) → (opening : 
 printed none cdm cds opening = listText (listOf opening cdm cds)
 printed (some r) cdm cds opening = refusedText r
 
--- "Text to rows: 11, 5", then "Read": the rows of a text are of one length and hold bits, and there is room for any list, so of the
+-- "Text to rows: 11, 5", 13 to 17 in 11's place, then "Read": the rows of a text are of one length and hold bits, and there is room for any list, so of the
 -- reader's own refusals only 8 is left.
 unfoldable pub reportRefusals : (text : List ℕ) → (opening : ℕ) → List Rule
 reportRefusals text opening =
-    found 11 (badForm (textFault text))
+    found 13 (badForm (textFault text))
     ∷ when (ltb columnLimit (length (cdmOf text))) 5
     ∷ when (ltb (length (cdmOf text)) opening) 8
     ∷ []
@@ -54,8 +54,8 @@ reportText text opening = printed (first (reportRefusals text opening)) (cdmOf t
 unfoldable pub rowsReport : (cdm cds : List ℕ) → (opening : ℕ) → List ℕ
 rowsReport cdm cds opening = printed (first (when (ltb (length cdm) opening) 8 ∷ [])) cdm cds opening
 
--- The same of a text that has more columns than a row may have, by its fault, or none: "11, 5".
-unfoldable pub longReport : (fault : Option ℕ) → List ℕ
+-- The same of a text that has more columns than a row may have, by its fault, or 5 for none.
+unfoldable pub longReport : Option Fault → List ℕ
 longReport fault = refusedText (Option·getD (badForm fault) (refusal 5 alone))
 
 -- A text printed whole, or refused by 9: "the result needs more room than was lent, and only then".

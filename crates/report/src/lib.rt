@@ -21,10 +21,10 @@ pub const REPORT_ROOM: usize = 131072;
 // "At most one entry falls in a column".
 const LIST_LIMIT: usize = ENTRY_BYTES * COLUMN_LIMIT;
 
-// More than the line of a refusal: the word, its number, values of at most twenty digits beside it, their TABs and LF.
-const REFUSAL_LIMIT: usize = 64;
+// More than the line of a refusal: the word, its number and two values beside it, of at most twenty digits each, their TABs and LF.
+const REFUSAL_LIMIT: usize = 80;
 
-// The list of a text of two rows from an opening column on, or the line of the refusal: 11, 5, 8.
+// The list of a text of two rows from an opening column on, or the line of the refusal: 13 to 17, 5, 8.
 pub fn report(text: &[u8], opening: usize, out: &mut [u8]) -> Outcome
     ensures { λ r. ⌜ Reported (now (text .entry)) opening (now (out .entry)) r (now (out .exit)) ⌝ }
 {
@@ -38,12 +38,13 @@ pub fn report(text: &[u8], opening: usize, out: &mut [u8]) -> Outcome
 }
 
 // The report on a text of more columns than a row may have, by the place where it stops and its end, or that of the piece which it
-// stops in: 11 anywhere goes before 5.
+// stops in: a fault anywhere goes before 5.
 pub fn long_report(stop: usize, end: usize, out: &mut [u8]) -> Outcome
     ensures { λ r. ⌜ Whole (longReport (faultAt stop end)) (now (out .entry)) r (now (out .exit)) ⌝ }
 {
-    if cursor::is_fault(stop, end) {
-        refused(11, Detail::OnLine(cursor::line_at(stop)), out)
+    let number = cursor::fault_number(stop, end);
+    if number != 0 {
+        refused(number, rows_text::fault_detail(stop), out)
     } else {
         refused(5, Detail::Alone, out)
     }
@@ -76,12 +77,15 @@ fn refused(number: u8, beside: Detail, out: &mut [u8]) -> Outcome
 
 // What is told beside a number, each value behind its TAB; a value has at most twenty digits.
 fn put_beside(out: &mut [u8], at: usize, beside: Detail) -> usize
-    requires { ⌜ at + 21 ≤ length (now out) ⌝ }
-    ensures { λ r. ⌜ Laid (fields (values (detail beside))) at (now (out .entry)) r (now (out .exit)) × (r ≤ at + 21) ⌝ }
+    requires { ⌜ at + 42 ≤ length (now out) ⌝ }
+    ensures { λ r. ⌜ Laid (fields (values (detail beside))) at (now (out .entry)) r (now (out .exit)) × (r ≤ at + 42) ⌝ }
 {
     match beside {
         Detail::Alone => at,
-        Detail::OnLine(line) => print::put_number(out, at, line as u64),
+        Detail::OnLine(line, byte) => {
+            let tab = print::put_number(out, at, line as u64);
+            print::put_number(out, tab, byte as u64)
+        }
     }
 }
 

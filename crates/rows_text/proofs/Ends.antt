@@ -3,16 +3,19 @@ use mathlib.Core.Path.{_≡_, refl, sym, ap, _∙_}
 use mathlib.Core.List.{List}
 use mathlib.Core.Option.{Option, none, some, orElse, Option·none-ne-some}
 use Prim.Native.Nat.{ℕ, _+_, _-_, _*_, _/_, _≤_, _<_}
+use native.Mathlib.Omega.{arith}
 use borrow.Author.Tests.{lt-ltb, le-ltb, ltb-false}
 use lib.ListN.{length, length-drop, drop}
 use lib.Seq.{sets}
 use Rattle.protocol.specs.Limits.{columnLimit}
 use Rattle.protocol.specs.Text.{cdmOf, cdsOf}
-use Rattle.protocol.specs.Fault.{lineAt, textFault}
-use Rattle.job.specs.Refusals.{on-line, refusal, first, given}
+use Rattle.protocol.specs.Fault.{lineAt, byteAt, Fault, faultBy, textFault}
+use Rattle.protocol.proofs.Fault.{fault-by}
+use Rattle.job.specs.Refusals.{on-line, refusal, first, given, detail}
 use Rattle.job.specs.Rows.{wrongRows}
 use Rattle.job.specs.declared.Outcome.the-variants.{Made, Refused}
-use Rattle.job.specs.declared.Detail.the-variants.{Alone, OnLine}
+use Rattle.job.specs.declared.Detail as Code
+use Rattle.job.specs.declared.Detail.the-variants.{Alone}
 use Rattle.job.proofs.Refusals.{no, no-either, gave-none, stays, passes, laid, ended-refused, ended-given, ended-made}
 use Rattle.job.proofs.Rows.{right-rows}
 use Rattle.rows_text.specs.RowsText.{rowsRefusals, badForm, textRoom, textRefusals, RowsTaken}
@@ -51,16 +54,22 @@ columns-in text = (
 )
 
 -- No fault is told exactly where there is none.
-pub form-good : (fault : Option ℕ) → badForm fault ≡ none → fault ≡ none
+pub form-good : (fault : Option Fault) → badForm fault ≡ none → fault ≡ none
 form-good none e = refl
-form-good (some at) e = absurd (Option·none-ne-some _ (sym e))
+form-good (some f) e = absurd (Option·none-ne-some _ (sym e))
 
--- The ends of text to rows: 11 with its line, 5 or 9, and columns.
+-- What is told of a fault, by its number and its place, in the words of the code.
+pub form-bad : (number at : ℕ) → (number ≡ 0 → ⊥) → (beside : Code.Detail) → detail beside ≡ on-line (lineAt at) (byteAt at)
+    → badForm (faultBy number at) ≡ some (refusal number (detail beside))
+form-bad number at h beside d = ap badForm (fault-by number at (omega arith)) ∙ sym (rw d)
+
+-- The ends of text to rows: 13 to 17 with line and byte, 5 or 9, and columns.
 module _ (text cdm cds : List ℕ) where
-  pub taken-bad : (at line : ℕ) → textFault text ≡ some at → line ≡ lineAt at → RowsTaken text cdm cds (Refused 11 (OnLine line)) cdm cds
+  pub taken-bad : (number at : ℕ) → textFault text ≡ faultBy number at → (number ≡ 0 → ⊥) → (beside : Code.Detail)
+      → detail beside ≡ on-line (lineAt at) (byteAt at) → RowsTaken text cdm cds (Refused number beside) cdm cds
   unfolding textRefusals first orElse
-  taken-bad at line e l =
-      record { ends = ended-refused _ _ _ (Refused 11 (OnLine line)) (refusal 11 (on-line line)) refl (rw (e, l)) }
+  taken-bad number at e h beside d =
+      record { ends = ended-refused _ _ _ (Refused number beside) (refusal number (detail beside)) refl (rw (e, form-bad number at h beside d)) }
 
   module _ (good : textFault text ≡ none) (why : ℕ) (room : given why ≡ first (textRoom ((length text - 8) / 4) (length cdm) (length cds))) where
     gives-room : given why ≡ first (textRefusals text (length cdm) (length cds))

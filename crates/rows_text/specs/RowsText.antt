@@ -7,7 +7,7 @@ use lib.Dec.{ltb}
 use lib.ListN.{length}
 use Rattle.protocol.specs.Limits.{columnLimit}
 use Rattle.protocol.specs.Text.{rowsText, cdmOf, cdsOf}
-use Rattle.protocol.specs.Fault.{lineAt, textFault}
+use Rattle.protocol.specs.Fault.{Fault, textFault}
 use Rattle.job.specs.Refusals.{on-line, Refusal, refusal, Rule, when, found, lent, Ended}
 use Rattle.job.specs.Rows.{wrongRows}
 use Rattle.job.specs.declared.Outcome.{Outcome}
@@ -22,20 +22,20 @@ rowsRefusals cdm cds room = wrongRows cdm cds ++ when (ltb room (length (rowsTex
 abbrev pub RowsPrinted : (cdm cds out : List ℕ) → Outcome → (after : List ℕ) → Type 0
 RowsPrinted cdm cds out outcome after = Printed (rowsRefusals cdm cds (length out)) (rowsText cdm cds) out outcome after
 
--- Refusal 11: "text not of the form above; the first bad line", that of the place where protocol's textFault finds it not so.
-abbrev pub badForm : (fault : Option ℕ) → Option Refusal
+-- Refusals 13 to 17: what protocol's textFault tells, the line and the byte beside the number.
+abbrev pub badForm : Option Fault → Option Refusal
 badForm none = none
-badForm (some at) = some (refusal 11 (on-line (lineAt at)))
+badForm (some f) = some (refusal (f .number) (on-line (f .line) (f .byte)))
 
 -- Refusals 5, and 9 where so many columns need more room than either row has.
 unfoldable pub textRoom : (columns cdm-room cds-room : ℕ) → List Rule
 textRoom columns cdm-room cds-room =
     when (ltb columnLimit columns) 5 ∷ when (ltb cdm-room columns || ltb cds-room columns) 9 ∷ []
 
--- "Text to rows: 11, 5, 9."
+-- "Text to rows: 11, 5, 9", and in request 01: "The first stands in 11's place in the order".
 unfoldable pub textRefusals : (text : List ℕ) → (cdm-room cds-room : ℕ) → List Rule
 textRefusals text cdm-room cds-room =
-    found 11 (badForm (textFault text)) ∷ textRoom (length (cdmOf text)) cdm-room cds-room
+    found 13 (badForm (textFault text)) ∷ textRoom (length (cdmOf text)) cdm-room cds-room
 
 -- What text to rows returns, in columns, and what it leaves in the lent rows.
 pub record RowsTaken (text cdm cds : List ℕ) (outcome : Outcome) (cdm-after cds-after : List ℕ) : Type 0 where

@@ -6,8 +6,9 @@ ghost use Prim.Native.Nat.{_+_, _*_, _≤_};
 ghost use lib.ListN.{length};
 ghost use lib.Seq.{sets};
 ghost use Rattle.protocol.specs.Text.{columnLine, columnLines, cdmOf, cdsOf};
+ghost use Rattle.protocol.specs.Fault.{lineAt, byteAt};
 ghost use Rattle.job.specs.Bytes.{areBits};
-ghost use Rattle.job.specs.Refusals.{first, given};
+ghost use Rattle.job.specs.Refusals.{on-line, first, given, detail};
 ghost use Rattle.print.specs.Laid.{Laid};
 ghost use Rattle.rows_text.specs.RowsText.{textRoom, RowsPrinted, RowsTaken};
 use job::COLUMN_LIMIT;
@@ -60,13 +61,14 @@ fn put_column(out: &mut [u8], at: usize, cdm: u8, cds: u8) -> usize
     at + LINE
 }
 
-// Text to rows: refusals 11, 5, 9.
+// Text to rows: refusals 13 to 17, 5, 9.
 pub fn text_to_rows(text: &[u8], cdm: &mut [u8], cds: &mut [u8]) -> Outcome
     ensures { λ r. ⌜ RowsTaken (now (text .entry)) (now (cdm .entry)) (now (cds .entry)) r (now (cdm .exit)) (now (cds .exit)) ⌝ }
 {
     let stop = cursor::stop_of(text);
-    if cursor::is_fault(stop, text.len()) {
-        return Outcome::Refused(11, Detail::OnLine(cursor::line_at(stop)));
+    let number = cursor::fault_number(stop, text.len());
+    if number != 0 {
+        return Outcome::Refused(number, fault_detail(stop));
     }
     let columns = (text.len() - HEADER) / LINE;
     let why = text_room(columns, cdm.len(), cds.len());
@@ -75,6 +77,13 @@ pub fn text_to_rows(text: &[u8], cdm: &mut [u8], cds: &mut [u8]) -> Outcome
     }
     put_rows(text, cdm, cds, columns);
     Outcome::Made(columns)
+}
+
+// What is told beside the number of a fault, by its place: its line, and its byte in that line.
+pub fn fault_detail(place: usize) -> Detail
+    ensures { λ r. ⌜ detail r ≡ on-line (lineAt place) (byteAt place) ⌝ }
+{
+    Detail::OnLine(cursor::line_at(place), cursor::byte_at(place))
 }
 
 // 5 or 9, or 0 where so many columns are refused by neither.

@@ -1,7 +1,7 @@
 -- `cursor::is_formed` meets its contract: a byte of the names, or by its place in a column's line. Assumes nothing.
 use mathlib.Core.Path.{refl}
 use borrow.Author.Needs.{needs}
-use Rattle.protocol.proofs.Fault.{column-form}
+use Rattle.protocol.proofs.Stop.{column-form}
 use Rattle.cursor.proofs.Lines.{name-form, digit-form}
 use Rattle.cursor.proofs.is_formed.Statement.{statement}
 use Rattle.cursor.proofs.is_formed.Tie as tie

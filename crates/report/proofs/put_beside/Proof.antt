@@ -1,13 +1,12 @@
--- `report::put_beside` meets its contract: nothing, or a number. Assumes nothing.
-use mathlib.Core.List.{List, _∷_, append-nil}
-use mathlib.Core.Path.{refl, sym, ap}
-use Prim.Native.Nat.{ℕ, _≤_}
+-- `report::put_beside` meets its contract: nothing, or two numbers. Assumes nothing.
+use mathlib.Core.Path.{refl}
+use Prim.Native.Nat.{_≤_}
 use borrow.Author.Needs.{needs}
 use lib.ListN.{length}
-use Rattle.protocol.specs.Text.{tab, decimal}
-use Rattle.print.proofs.Laid.{renamed}
+use Rattle.protocol.specs.Text.{decimal}
+use Rattle.print.proofs.Laid.{laid-length}
 use Rattle.report.specs.Report.{fields}
-use Rattle.report.proofs.Lines.{twenty}
+use Rattle.report.proofs.Lines.{twenty, two-fields}
 use Rattle.report.proofs.put_beside.Statement.{statement}
 use Rattle.report.proofs.put_beside.Tie as tie
 
@@ -17,20 +16,40 @@ put-number-requires c κs =
     let short : length (decimal line) ≤ 20 = twenty line (search needs) in
     search needs
 
+put-number-requires-2 : tie.Need-put-number-requires-2
+put-number-requires-2 c κs =
+    let one = c .before .before .before in
+    let told = one .before .before .before .beside .given .0 in
+    let short : length (decimal (told .0)) ≤ 20 = twenty (told .0) (search needs) in
+    let short′ : length (decimal (told .1 .0)) ≤ 20 = twenty (told .1 .0) (search needs) in
+    let there = one .put-number .ensures .behind in
+    let kept = laid-length (one .put-number .ensures) in
+    search needs
+
 returns : tie.Need-returns
 unfolding fields
 returns c = rw (c .enum-told .given .1) (record { behind = search needs; laid = refl }, search needs)
 
 returns-2 : tie.Need-returns-2
-unfolding fields
 returns-2 c =
-    let put = c .before .before in
-    let line = put .before .before .before .beside .given in
-    let short : length (decimal (line .0 .0)) ≤ 20 = twenty (line .0 .0) (search needs) in
-    let there = put .put-number .ensures .behind in
-    rw (line .1) (renamed (ap (λ (l : List ℕ). tab ∷ l) (sym (append-nil (decimal (line .0 .0))))) (put .put-number .ensures), search needs)
+    let two = c .before .before in
+    let one = two .before .before .before .before in
+    let told = one .before .before .before .beside .given in
+    let short : length (decimal (told .0 .0)) ≤ 20 = twenty (told .0 .0) (search needs) in
+    let short′ : length (decimal (told .0 .1 .0)) ≤ 20 = twenty (told .0 .1 .0) (search needs) in
+    let there = one .put-number .ensures .behind in
+    let there′ = two .put-number2 .ensures .behind in
+    rw (told .1) (two-fields (told .0 .0) (told .0 .1 .0) (one .put-number .ensures) (two .put-number2 .ensures), search needs)
 
 pub put-beside-spec : {M : Type 1} → statement M
 put-beside-spec =
     tie.close
-    (tie.spec (λ c. search needs) (λ c. search needs) put-number-requires returns (λ c. search needs) returns-2)
+    (tie.spec
+    (λ c. search needs)
+    (λ c. search needs)
+    put-number-requires
+    (λ c. search needs)
+    put-number-requires-2
+    returns
+    (λ c. search needs)
+    returns-2)

@@ -1,9 +1,8 @@
 -- `rows_text::text_to_rows` meets its contract: no fault, room for the columns, and then their digits. Assumes nothing.
-use mathlib.Core.Path.{sym, _∙_}
 use borrow.Author.Needs.{needs}
 use Rattle.job.proofs.Refusals.{gave-none}
 use Rattle.protocol.proofs.Text.{good-long}
-use Rattle.protocol.proofs.Fault.{nothing-wrong, fault-there, fault-none}
+use Rattle.protocol.proofs.Fault.{nothing-wrong, fault-of, fault-none}
 use Rattle.rows_text.proofs.Ends.{room-enough, taken-bad, taken-refused, taken-columns}
 use Rattle.rows_text.proofs.text_to_rows.Statement.{statement}
 use Rattle.rows_text.proofs.text_to_rows.Tie as tie
@@ -12,12 +11,12 @@ returns : tie.Need-returns
 returns c =
     let bad = c .before in
     let asked = bad .before in
-    taken-bad _ _ _ _ _ (fault-there _ _ (asked .before .stop-of .ensures) (sym (asked .is-fault .ensures) ∙ bad .if1 .taken)) (c .line-at .ensures)
+    taken-bad _ _ _ _ _ (fault-of _ _ _ (asked .before .stop-of .ensures) (asked .fault-number .ensures)) (bad .if1 .taken) _ (c .fault-detail .ensures)
 
 sub-columns : tie.Need-sub-columns
 sub-columns c =
     let asked = c .before in
-    let none-there = fault-none _ _ (asked .before .stop-of .ensures) (sym (asked .is-fault .ensures) ∙ c .if1 .left) in
+    let none-there = fault-none _ _ _ (asked .before .stop-of .ensures) (asked .fault-number .ensures) (c .if1 .left) in
     let long = good-long _ (nothing-wrong _ none-there) in
     search needs
 
@@ -25,7 +24,7 @@ returns-2 : tie.Need-returns-2
 returns-2 c =
     let good = c .before .before in
     let asked = good .before in
-    let none-there = fault-none _ _ (asked .before .stop-of .ensures) (sym (asked .is-fault .ensures) ∙ good .if1 .left) in
+    let none-there = fault-none _ _ _ (asked .before .stop-of .ensures) (asked .fault-number .ensures) (good .if1 .left) in
     taken-refused _ _ _ none-there _ (c .before .text-room .ensures) (c .if2 .taken)
 
 put-rows-requires : tie.Need-put-rows-requires
@@ -33,7 +32,7 @@ put-rows-requires c κs =
     let room = c .before .before in
     let good = room .before .before in
     let asked = good .before in
-    let none-there = fault-none _ _ (asked .before .stop-of .ensures) (sym (asked .is-fault .ensures) ∙ good .if1 .left) in
+    let none-there = fault-none _ _ _ (asked .before .stop-of .ensures) (asked .fault-number .ensures) (good .if1 .left) in
     let long = good-long _ (nothing-wrong _ none-there) in
     let rows = room-enough _ _ _ (gave-none _ (room .before .text-room .ensures) (room .if2 .left)) in
     search needs
@@ -44,7 +43,7 @@ returns-3 c =
     let room = put .before .before .before in
     let good = room .before .before in
     let asked = good .before in
-    let none-there = fault-none _ _ (asked .before .stop-of .ensures) (sym (asked .is-fault .ensures) ∙ good .if1 .left) in
+    let none-there = fault-none _ _ _ (asked .before .stop-of .ensures) (asked .fault-number .ensures) (good .if1 .left) in
     taken-columns _ _ _ none-there _ (room .before .text-room .ensures) (room .if2 .left) _ _ (put .put-rows .ensures)
 
 pub text-to-rows-spec : {M : Type 1} → statement M
