@@ -154,15 +154,18 @@ module _ (rules more : List Rule) where
       before none e = refl
       before (some r) e = e
 
--- No two outcomes of the code are told alike, so that a promise of what is told has one result.
+-- No two details, and no two outcomes, of the code are told alike, so that a promise of what is told has one result.
+pub one-detail : (a b : Code.Detail) → detail a ≡ detail b → a ≡ b
+one-detail Alone Alone e = refl
+one-detail Alone (OnLine l b) e = cc
+one-detail (OnLine l b) Alone e = cc
+one-detail (OnLine l b) (OnLine k c) e = cc
+
 one-told : (a b : Outcome) → told a ≡ told b → a ≡ b
 one-told (Made n) (Made m) e = cc
 one-told (Made n) (Refused k d) e = cc
 one-told (Refused k d) (Made n) e = cc
-one-told (Refused k Alone) (Refused m Alone) e = cc
-one-told (Refused k Alone) (Refused m (OnLine l b)) e = cc
-one-told (Refused k (OnLine l b)) (Refused m Alone) e = cc
-one-told (Refused k (OnLine l b)) (Refused m (OnLine j d)) e = cc
+one-told (Refused k c) (Refused m d) e = let beside : c ≡ d = one-detail c d (cc) in cc
 
 -- A buffer as it was lent.
 abbrev pub unchanged : Lent → List ℕ

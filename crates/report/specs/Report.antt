@@ -37,8 +37,8 @@ unfoldable pub printed : Option Refusal → (cdm cds : List ℕ) → (opening : 
 printed none cdm cds opening = listText (listOf opening cdm cds)
 printed (some r) cdm cds opening = refusedText r
 
--- "Text to rows: 11, 5", 13 to 17 in 11's place, then "Read": the rows of a text are of one length and hold bits, and there is room for any list, so of the
--- reader's own refusals only 8 is left.
+-- "Text to rows: 11, 5", with 13 to 17 in 11's place, then "Read": the rows of a text are of one length and hold bits, and there is room for
+-- any list, so of the reader's own refusals only 8 is left.
 unfoldable pub reportRefusals : (text : List ℕ) → (opening : ℕ) → List Rule
 reportRefusals text opening =
     found 13 (badForm (textFault text))
