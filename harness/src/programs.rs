@@ -98,8 +98,8 @@ fn lines(columns: usize) -> Vec<u8> {
     [&b"cdm\tcds\n"[..], &b"0\t0\n".repeat(columns)].concat()
 }
 
-/// Every fault that a text can have: in the header, on a line of a short text and
-/// on lines of a long one.
+/// Every fault that a text can have: in the header, on a line of a text within the
+/// limit and on lines of a long one.
 fn faulty_inputs() -> Vec<Input> {
     let at = |columns, line, fault: (u8, usize)| {
         let (number, byte) = fault;
@@ -107,9 +107,9 @@ fn faulty_inputs() -> Vec<Input> {
         faulty(&name, columns, line, fault)
     };
     let header = each(IN_HEADER).into_iter().map(|fault| at(3, 1, fault));
-    let short = each(IN_COLUMN).into_iter().map(|fault| at(3, 3, fault));
+    let within = each(IN_COLUMN).into_iter().map(|fault| at(LIMIT, 812, fault));
     let on_line = |line| each(IN_COLUMN).into_iter().map(move |fault| at(LONG, line, fault));
-    header.chain(short).chain(LINES.into_iter().flat_map(on_line)).collect()
+    header.chain(within).chain(LINES.into_iter().flat_map(on_line)).collect()
 }
 
 /// A text of so many columns with one fault, a number at a byte of a line: a
