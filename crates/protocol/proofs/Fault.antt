@@ -1,5 +1,5 @@
--- What is told of a text: line and byte lose nothing of a place; nothing is told exactly where no line is bad, and the line told is the
--- first bad one; every byte before the place told has its form; and only 13 to 17 are told. Assumes nothing.
+-- What is told of a text: line and byte lose nothing of a place; every byte before the place told has its form; nothing is told exactly
+-- where no line is bad, and the line told is the first bad one; and only 13 to 17 are told. Assumes nothing.
 use mathlib.Core.Path.{_≡_, refl, sym, ap, _∙_}
 use mathlib.Core.Bool.{true, false, cond}
 use mathlib.Core.List.{List, [], _∷_}
@@ -24,6 +24,26 @@ pub place-back : (p : ℕ) → placeOf (lineAt p) (byteAt p) ≡ p
 place-back p =
     tested (ltb p 8) (λ q. rw q)
     (λ q. let below : 8 ≤ p = ltb-false p 8 q in rw (q, ne-eqb (2 + (p - 8) / 4) 1 (omega arith)) (omega arith))
+
+-- The place that is told is the stop ..
+stop-told : (n p : ℕ) (f : Fault) → faultBy n p ≡ some f → placeOf (f .line) (f .byte) ≡ p
+stop-told zero p f e = absurd (Option·none-ne-some f e)
+stop-told (suc n) p f e =
+    let line : f .line ≡ lineAt p = cc in
+    let byte : f .byte ≡ byteAt p = cc in
+    rw (line, byte) (place-back p)
+
+-- .. so every byte before it has its form, and the byte there has not, if there is one: it is "the first bad byte".
+module _ (text : List ℕ) (f : Fault) (e : textFault text ≡ some f) where
+  told-there : placeOf (f .line) (f .byte) ≡ stop 0 text
+  unfolding textFault faultAt
+  told-there = stop-told (faultNumber (stop 0 text) (length text)) (stop 0 text) f e
+
+  pub good-before : (i : ℕ) → i < placeOf (f .line) (f .byte) → (i < length text) × (has (formAt i) (getD text i 0) ≡ true)
+  good-before i h = rw (zero-add i) at (before-stop 0 text i (rw (zero-add i) (rw told-there at h)))
+
+  pub bad-there : (i : ℕ) → i ≡ placeOf (f .line) (f .byte) → i < length text → has (formAt i) (getD text i 0) ≡ false
+  bad-there i there h = rw (zero-add i) at (at-stop 0 text i (rw (zero-add i) (there ∙ told-there)) h)
 
 -- A byte that has not its form is refused by 13 to 16.
 lacking-within : (f : Form) → (13 ≤ lacking f) × (lacking f ≤ 16)
@@ -134,26 +154,6 @@ nothing-wrong text e = sym (same-line text) ∙ ap faultLine e
 pub nothing-told : (text : List ℕ) → badLine text ≡ 0 → textFault text ≡ none
 unfolding textFault faultAt
 nothing-told text e = no-line (faultNumber (stop 0 text) (length text)) (stop 0 text) (same-line text ∙ e)
-
--- The place that is told is the stop ..
-stop-told : (n p : ℕ) (f : Fault) → faultBy n p ≡ some f → placeOf (f .line) (f .byte) ≡ p
-stop-told zero p f e = absurd (Option·none-ne-some f e)
-stop-told (suc n) p f e =
-    let line : f .line ≡ lineAt p = cc in
-    let byte : f .byte ≡ byteAt p = cc in
-    rw (line, byte) (place-back p)
-
--- .. so every byte before it has its form, and the byte there has not, if there is one: it is "the first bad byte".
-module _ (text : List ℕ) (f : Fault) (e : textFault text ≡ some f) where
-  told-there : placeOf (f .line) (f .byte) ≡ stop 0 text
-  unfolding textFault faultAt
-  told-there = stop-told (faultNumber (stop 0 text) (length text)) (stop 0 text) f e
-
-  pub good-before : (i : ℕ) → i < placeOf (f .line) (f .byte) → (i < length text) × (has (formAt i) (getD text i 0) ≡ true)
-  good-before i h = rw (zero-add i) at (before-stop 0 text i (rw (zero-add i) (rw told-there at h)))
-
-  pub bad-there : (i : ℕ) → i ≡ placeOf (f .line) (f .byte) → i < length text → has (formAt i) (getD text i 0) ≡ false
-  bad-there i there h = rw (zero-add i) at (at-stop 0 text i (rw (zero-add i) (there ∙ told-there)) h)
 
 -- A stop before the end tells the same, wherever the end is.
 pub fault-inside : (at end other : ℕ) → at < end → at < other → faultAt at end ≡ faultAt at other
