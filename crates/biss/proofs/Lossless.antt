@@ -15,9 +15,10 @@ use Rattle.channels.specs.declared.Channel.{Channel}
 use Rattle.channels.specs.declared.Channel.the-variants as Channels
 use Rattle.biss.specs.Coded.{code, decodeDetail, decode, Fits, channelCode, Coded}
 
-on-it : (line byte : ℕ) → 1 ≤ line → decodeDetail line byte ≡ on-line line byte
-on-it zero byte h = absurd (omega arith)
-on-it (suc line) byte h = refl
+-- A line that is told counts from 1, so that it is read as one.
+line-read : (line byte : ℕ) → 1 ≤ line → decodeDetail line byte ≡ on-line line byte
+line-read zero byte h = absurd (omega arith)
+line-read (suc line) byte h = refl
 
 pub decode-code : (e : Ending) → Fits e → decode (code e) ≡ e
 unfolding code decode
@@ -33,7 +34,7 @@ decode-code (refused (refusal k (on-line l b))) h =
     let line : n / 2 ^ 9 % 2 ^ 53 ≡ l = omega arith in
     let byte : n / 2 ^ 6 % 2 ^ 3 ≡ b = omega arith in
     let number : n % 2 ^ 6 ≡ k = omega arith in
-    rw (whole, le-ltb n (2 ^ 63) (omega arith), line, byte, number, on-it l b (h .1))
+    rw (whole, le-ltb n (2 ^ 63) (omega arith), line, byte, number, line-read l b (h .1))
 
 -- So two ends of one number are the same, and what a call returns is read as the end that its job promises.
 code-lossless : (a b : Ending) → Fits a → Fits b → code a ≡ code b → a ≡ b
