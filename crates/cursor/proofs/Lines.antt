@@ -7,10 +7,9 @@ use native.Mathlib.Numerals.{add-one}
 use native.Mathlib.Nat.{zero-add}
 use native.Mathlib.Omega.{arith}
 use borrow.Author.Tests.{lt-ltb, eq-eqb, ne-eqb}
-use lib.Dec.{eqb}
 use lib.ListN.{length, take, drop, getD, length-drop, length-map, drop-of-length-le}
 use lib.Seq.{take-all, drop-cons, drop-drop}
-use Rattle.protocol.specs.Text.{rowsHeader, exactly, bit, has, lacking, headerForm, columnForm, begins}
+use Rattle.protocol.specs.Text.{rowsHeader, exactly, bit, has, headerForm, columnForm, begins}
 use Rattle.protocol.specs.Fault.{formAt, stop}
 use Rattle.laws.proofs.Every.{tested}
 use Rattle.protocol.proofs.Text.{four, begins-long}
@@ -102,13 +101,13 @@ stop-far place n piece h e =
     rw there (omega arith)
 
 -- What a byte has to be, in the words of the code: a byte of the names, or the form of its place in a column's line.
-named : (line : List ℕ) (i byte : ℕ) → i < length line → has (getD (map exactly line) i bit) byte ≡ eqb byte (getD line i 0)
-named [] i byte h = absurd (omega arith)
-named (x ∷ line) zero byte h = refl
-named (x ∷ line) (suc i) byte h = named line i byte (omega arith)
+named : (line : List ℕ) (i : ℕ) → i < length line → getD (map exactly line) i bit ≡ exactly (getD line i 0)
+named [] i h = absurd (omega arith)
+named (x ∷ line) zero h = refl
+named (x ∷ line) (suc i) h = named line i (omega arith)
 
-pub name-form : (place byte : ℕ) → place < 8 → eqb byte (getD rowsHeader place 0) ≡ has (formAt place) byte
-name-form place byte h = sym (rw (lt-ltb place 8 h) (named rowsHeader place byte h))
+pub name-form : (place : ℕ) → place < 8 → formAt place ≡ exactly (getD rowsHeader place 0)
+name-form place h = rw (lt-ltb place 8 h) (named rowsHeader place h)
 
 pub digit-form : (i : ℕ) → (i ≡ 1 → ⊥) → (i ≡ 3 → ⊥) → getD columnForm i bit ≡ bit
 digit-form zero h k = refl
@@ -116,12 +115,3 @@ digit-form (suc zero) h k = absurd (h refl)
 digit-form (suc (suc zero)) h k = refl
 digit-form (suc (suc (suc zero))) h k = absurd (k refl)
 digit-form (suc (suc (suc (suc i)))) h k = refl
-
--- The number of a byte that has not its form, in the same words.
-named-number : (line : List ℕ) (i : ℕ) → i < length line → lacking (getD (map exactly line) i bit) ≡ 13
-named-number [] i h = absurd (omega arith)
-named-number (x ∷ line) zero h = refl
-named-number (x ∷ line) (suc i) h = named-number line i (omega arith)
-
-pub name-number : (place : ℕ) → place < 8 → 13 ≡ lacking (formAt place)
-name-number place h = sym (rw (lt-ltb place 8 h) (named-number rowsHeader place h))

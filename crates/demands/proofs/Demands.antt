@@ -15,12 +15,12 @@ use Rattle.protocol.specs.Account.{account}
 use Rattle.protocol.specs.Replay.{replay, Shows}
 use Rattle.protocol.specs.Late.{FirstFourteen, NoFourteen, fromColumn}
 use Rattle.protocol.specs.Text.{rowsText, listText, has, badLine, cdmOf, cdsOf}
-use Rattle.protocol.specs.Fault.{formAt}
+use Rattle.protocol.specs.Fault.{placeOf, formAt, faultLine}
 use Rattle.protocol.proofs.Codec.{bytes-list}
 use Rattle.protocol.proofs.Demands as protocol
 use Rattle.protocol.proofs.Text.{back-and-there}
 use Rattle.protocol.proofs.Fault as told
-use Rattle.protocol.proofs.Fault.{placeOf, faultLine, same-line}
+use Rattle.protocol.proofs.Fault.{same-line}
 use Rattle.job.specs.declared.Outcome.{Outcome}
 use Rattle.job.specs.declared.Outcome.the-variants.{Made, Refused}
 use Rattle.job.specs.declared.Detail.the-variants.{OnLine}

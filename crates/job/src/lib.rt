@@ -69,7 +69,7 @@ fn wrong_lengths(columns: usize, others: usize) -> u8
 }
 
 // Whether every byte of a row is 0 or 1 (01, refusal 7).
-pub fn are_bits(row: &[u8]) -> bool
+fn are_bits(row: &[u8]) -> bool
     ensures { λ r. ⌜ r ≡ areBits (now (row .entry)) ⌝ }
 {
     none_above(row, 1)

@@ -22,7 +22,7 @@ pub fn put_bytes(out: &mut [u8], at: usize, bytes: &[u8]) -> usize
 }
 
 // Text: "decimal".
-pub fn put_decimal(out: &mut [u8], at: usize, n: u64) -> usize
+fn put_decimal(out: &mut [u8], at: usize, n: u64) -> usize
     requires { ⌜ at + length (decimal n) ≤ length (now out) ⌝ }
     ensures { λ r. ⌜ Laid (decimal n) at (now (out .entry)) r (now (out .exit)) ⌝ }
 {

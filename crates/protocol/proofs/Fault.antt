@@ -1,7 +1,7 @@
 -- What is told of a text: line and byte lose nothing of a place; every byte before the place told has its form; nothing is told exactly
 -- where no line is bad, and the line told is the first bad one; and only 13 to 17 are told. Assumes nothing.
 use mathlib.Core.Path.{_≡_, refl, sym, ap, _∙_}
-use mathlib.Core.Bool.{true, false, cond}
+use mathlib.Core.Bool.{true, false}
 use mathlib.Core.List.{List, [], _∷_}
 use mathlib.Core.Option.{Option, none, some, Option·none-ne-some}
 use Prim.Native.Nat.{ℕ, zero, suc, _+_, _-_, _*_, _/_, _%_, _≤_, _<_, max}
@@ -11,15 +11,12 @@ use borrow.Author.Tests.{lt-ltb, le-ltb, eq-eqb, ne-eqb, ltb-true, ltb-false, eq
 use lib.Dec.{ltb, eqb}
 use lib.ListN.{length, drop, getD, length-drop}
 use Rattle.protocol.specs.Text.{Form, exactly, bit, a-tab, a-feed, has, lacking, headerForm, columnForm, begins, fault, firstBad, badLine}
-use Rattle.protocol.specs.Fault.{headerLength, lineLength, lineAt, byteAt, formAt, stop, Fault, faultNumber, faultBy, faultAt, textFault}
+use Rattle.protocol.specs.Fault.{lineAt, byteAt, placeOf, formAt, stop, Fault, faultNumber, faultBy, faultAt, textFault, faultLine}
 use Rattle.laws.proofs.Every.{IfAny, either, tested}
 use Rattle.protocol.proofs.Text.{begins-long}
 use Rattle.protocol.proofs.Stop.{stop-low, Forms, header-forms, column-forms, through, within, before-stop, at-stop}
 
--- The place of a byte of a line in its text, and that a place comes back from its line and its byte.
-abbrev pub placeOf : (line byte : ℕ) → ℕ
-placeOf line byte = cond (eqb line 1) byte (headerLength + lineLength * (line - 2) + byte)
-
+-- A place comes back from its line and its byte.
 pub place-back : (p : ℕ) → placeOf (lineAt p) (byteAt p) ≡ p
 place-back p =
     tested (ltb p 8) (λ q. rw q)
@@ -75,11 +72,6 @@ module _ (n s end : ℕ) (after : 8 + 4 * n ≤ s) (before : s < 12 + 4 * n) whe
 pub fault-by : (n p : ℕ) → 0 < n → faultBy n p ≡ some (record { number = n; line = lineAt p; byte = byteAt p })
 fault-by zero p h = absurd (omega arith)
 fault-by (suc n) p h = refl
-
--- The line that is told, 0 for none.
-abbrev pub faultLine : Option Fault → ℕ
-faultLine none = 0
-faultLine (some f) = f .line
 
 told-line : (s end : ℕ) → 0 < faultNumber s end → faultLine (faultAt s end) ≡ lineAt s
 unfolding faultAt

@@ -3,7 +3,7 @@
 use mathlib.Core.Bool.{cond}
 use mathlib.Core.List.{List, [], _∷_}
 use mathlib.Core.Option.{Option, none, some}
-use Prim.Native.Nat.{ℕ, zero, suc, _+_, _-_, _/_, _%_}
+use Prim.Native.Nat.{ℕ, zero, suc, _+_, _-_, _*_, _/_, _%_}
 use lib.Dec.{ltb, eqb}
 use lib.ListN.{length, getD}
 use Rattle.protocol.specs.Text.{rowsHeader, Form, bit, has, lacking, headerForm, columnForm}
@@ -23,6 +23,10 @@ lineAt p = cond (ltb p headerLength) 1 (2 + (p - headerLength) / lineLength)
 -- .. and its byte in that line, "counted in bytes from 0".
 abbrev pub byteAt : (place : ℕ) → ℕ
 byteAt p = cond (ltb p headerLength) p ((p - headerLength) % lineLength)
+
+-- .. and back: the place of a byte of a line.
+abbrev pub placeOf : (line byte : ℕ) → ℕ
+placeOf line byte = cond (eqb line 1) byte (headerLength + lineLength * (line - 2) + byte)
 
 -- What the byte at a place has to be: "header `cdm` TAB `cds` LF, then digit TAB digit LF for each column".
 abbrev pub formAt : (place : ℕ) → Form
@@ -60,3 +64,8 @@ faultAt p end = faultBy (faultNumber p end) p
 -- What is wrong with a text, or nothing.
 unfoldable pub textFault : (text : List ℕ) → Option Fault
 textFault text = faultAt (stop 0 text) (length text)
+
+-- The line that is told, 0 for none.
+abbrev pub faultLine : Option Fault → ℕ
+faultLine none = 0
+faultLine (some f) = f .line

@@ -1,6 +1,6 @@
 -- A text printed whole, or refused by 9; and the line of a refusal. Assumes nothing.
-use mathlib.Core.Path.{_≡_, sym, ap, _∙_}
-use mathlib.Core.List.{List, [], _∷_, append-nil}
+use mathlib.Core.Path.{_≡_, refl, sym, ap, _∙_}
+use mathlib.Core.List.{List, [], _∷_, map, append-nil}
 use Prim.Native.Nat.{ℕ, _+_, _≤_, _<_, _^_}
 use native.Mathlib.Nat.{zero-add}
 use native.Mathlib.Omega.{arith}
@@ -8,8 +8,8 @@ use borrow.Author.Tests.{lt-ltb, le-ltb}
 use lib.ListN.{length, take, set}
 use lib.Seq.{take-at}
 use Rattle.protocol.specs.Entries.{bytes}
-use Rattle.protocol.specs.Text.{tab, feed, decimal}
-use Rattle.job.specs.Refusals.{Detail, refusal, first}
+use Rattle.protocol.specs.Text.{tab, feed, digitsIn, decimal}
+use Rattle.job.specs.Refusals.{Detail, alone, on-line, refusal, first}
 use Rattle.job.specs.declared.Outcome.the-variants.{Made, Refused}
 use Rattle.job.specs.declared.Detail.the-variants.{Alone}
 use Rattle.job.proofs.Laid.{sets-first}
@@ -34,6 +34,11 @@ module _ (text out : List ℕ) where
 pub laid-front : {vs l l′ : List ℕ} {n : ℕ} → Laid vs 0 l n l′ → length vs ≤ length l → take n l′ ≡ vs
 laid-front {vs} {l} {l′} {n} put h =
     rw (put .laid, sets-first l vs h) (take-at vs _ n (sym (put .behind ∙ zero-add (length vs))))
+
+-- Worked out by hand: the line of a number alone, and of one with its line and byte.
+refusals-print : map refusedText (refusal 8 alone ∷ refusal 15 (on-line 812 1) ∷ []) ≡ bytes "refused\t8\n" ∷ bytes "refused\t15\t812\t1\n" ∷ []
+unfolding refusedText fields decimal digitsIn
+refusals-print = refl
 
 -- A number of 64 bits has at most twenty digits.
 pub twenty : (n : ℕ) → n < 2 ^ 64 → length (decimal n) ≤ 20

@@ -61,7 +61,10 @@ fn columns(text: &[u8]) -> Result<Vec<(u8, u8)>, Fault> {
     for (after_header, line) in below.chunks(COLUMN_BYTES).enumerate() {
         match column(line) {
             Some(digits) => found.push(digits),
-            None => judge(after_header + 2, line, COLUMN_BYTES, wrong_in_column)?,
+            None => {
+                judge(after_header + 2, line, COLUMN_BYTES, wrong_in_column)?;
+                unreachable!("a line with nothing wrong is a column");
+            }
         }
     }
     Ok(found)

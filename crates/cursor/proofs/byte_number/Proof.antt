@@ -1,12 +1,12 @@
 -- `cursor::byte_number` meets its contract: by the form of the place, as in is_formed. Assumes nothing.
 use mathlib.Core.Path.{refl}
 use Rattle.protocol.proofs.Stop.{column-form}
-use Rattle.cursor.proofs.Lines.{name-number, digit-form}
+use Rattle.cursor.proofs.Lines.{name-form, digit-form}
 use Rattle.cursor.proofs.byte_number.Statement.{statement}
 use Rattle.cursor.proofs.byte_number.Tie as tie
 
 returns : tie.Need-returns
-returns c = name-number _ (c .if1 .taken)
+returns c = rw (name-form _ (c .if1 .taken))
 
 returns-2 : tie.Need-returns-2
 returns-2 c = rw (column-form _ 1 (c .before .if1 .left) (c .match .keys1))

@@ -7,7 +7,7 @@ use Rattle.cursor.proofs.is_formed.Statement.{statement}
 use Rattle.cursor.proofs.is_formed.Tie as tie
 
 returns : tie.Need-returns
-returns c = name-form _ _ (c .if1 .taken)
+returns c = rw (name-form _ (c .if1 .taken))
 
 returns-2 : tie.Need-returns-2
 returns-2 c = rw (column-form _ 1 (c .before .if1 .left) (c .match .keys1))

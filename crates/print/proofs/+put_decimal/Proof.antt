@@ -24,119 +24,53 @@ abbrev put-decimal-below : ℕ → In 1 put-decimal-kinds.ps
 put-decimal-below t =
     and 1 put-decimal-kinds.ps (falls 1 put-decimal-kinds.ps _<_ μ-put-decimal t) put-decimal.Pre
 
-put-decimal-cast-out : (t : ℕ) → put-decimal-lts.Need-cast-out (
-  put-decimal-below t,
-  put-decimal.Post,
-) (put-decimal-at t) put-decimal.Post
-put-decimal-cast-out t c = search needs
+-- What a search does not close, of a number that has fallen to t.
+module _ (t : ℕ) where
+  slice-write-out : put-decimal-lts.Need-slice-write-out (put-decimal-below t, put-decimal.Post) (put-decimal-at t) put-decimal.Post
+  slice-write-out c = let long = ap length (decimal-one _ (c .if1 .taken)) in search needs
 
-put-decimal-add-out : (t : ℕ) → put-decimal-lts.Need-add-out (
-  put-decimal-below t,
-  put-decimal.Post,
-) (put-decimal-at t) put-decimal.Post
-put-decimal-add-out t c = search needs
+  put-decimal-requires : put-decimal-lts.Need-put-decimal-requires (put-decimal-below t, put-decimal.Post) (put-decimal-at t) put-decimal.Post
+  put-decimal-requires c κs =
+      let shorter = decimal-longer _ (c .before .if1 .left) in
+      let room = c .before .before .before .pre in
+      (search needs, search needs)
 
-put-decimal-slice-write-out : (t : ℕ) → put-decimal-lts.Need-slice-write-out (
-  put-decimal-below t,
-  put-decimal.Post,
-) (put-decimal-at t) put-decimal.Post
-put-decimal-slice-write-out t c =
-    let long = ap length (decimal-one _ (c .if1 .taken)) in search needs
+  slice-write-out-2 : put-decimal-lts.Need-slice-write-out-2 (put-decimal-below t, put-decimal.Post) (put-decimal-at t) put-decimal.Post
+  slice-write-out-2 c =
+      let put = c .before .before .put-decimal in
+      let longer = decimal-longer _ (c .before .before .before .before .if1 .left) in
+      let kept = put .kept .0 in
+      search needs
 
-put-decimal-add-result : (t : ℕ) → put-decimal-lts.Need-add-result (
-  put-decimal-below t,
-  put-decimal.Post,
-) (put-decimal-at t) put-decimal.Post
-put-decimal-add-result t c = search needs
+  add-result-2 : put-decimal-lts.Need-add-result-2 (put-decimal-below t, put-decimal.Post) (put-decimal-at t) put-decimal.Post
+  add-result-2 c =
+      let put = c .before .before .put-decimal in
+      let longer = decimal-longer _ (c .before .before .before .before .if1 .left) in
+      let kept = put .kept .0 in
+      search needs
 
-put-decimal-put-decimal-requires : (t : ℕ) → put-decimal-lts.Need-put-decimal-requires (
-  put-decimal-below t,
-  put-decimal.Post,
-) (put-decimal-at t) put-decimal.Post
-put-decimal-put-decimal-requires t c κs =
-    let shorter = decimal-longer _ (c .before .if1 .left) in
-    let room = c .before .before .before .pre in
-    (search needs, search needs)
+  returns : put-decimal-lts.Need-returns (put-decimal-below t, put-decimal.Post) (put-decimal-at t) put-decimal.Post
+  returns c =
+      let a = c .before .before .args in
+      rw (decimal-one (a .n) (c .if1 .taken)) (one-byte (a .out .now) (a .at) _)
 
-put-decimal-cast-out-2 : (t : ℕ) → put-decimal-lts.Need-cast-out-2 (
-  put-decimal-below t,
-  put-decimal.Post,
-) (put-decimal-at t) put-decimal.Post
-put-decimal-cast-out-2 t c = search needs
-
-put-decimal-add-out-2 : (t : ℕ) → put-decimal-lts.Need-add-out-2 (
-  put-decimal-below t,
-  put-decimal.Post,
-) (put-decimal-at t) put-decimal.Post
-put-decimal-add-out-2 t c = search needs
-
-put-decimal-slice-write-out-2 : (t : ℕ) → put-decimal-lts.Need-slice-write-out-2 (
-  put-decimal-below t,
-  put-decimal.Post,
-) (put-decimal-at t) put-decimal.Post
-put-decimal-slice-write-out-2 t c =
-    let put = c .before .before .put-decimal in
-    let more = c .before .before .before .before in
-    let longer = decimal-longer _ (more .if1 .left) in
-    let kept = put .kept .0 in
-    search needs
-
-put-decimal-add-result-2 : (t : ℕ) → put-decimal-lts.Need-add-result-2 (
-  put-decimal-below t,
-  put-decimal.Post,
-) (put-decimal-at t) put-decimal.Post
-put-decimal-add-result-2 t c =
-    let put = c .before .before .put-decimal in
-    let more = c .before .before .before .before in
-    let longer = decimal-longer _ (more .if1 .left) in
-    let kept = put .kept .0 in
-    search needs
-
-put-decimal-same-length : (t : ℕ) → put-decimal-lts.Need-same-length (
-  put-decimal-below t,
-  put-decimal.Post,
-) (put-decimal-at t) put-decimal.Post
-put-decimal-same-length t c = search needs
-
-put-decimal-returns : (t : ℕ) → put-decimal-lts.Need-returns (
-  put-decimal-below t,
-  put-decimal.Post,
-) (put-decimal-at t) put-decimal.Post
-put-decimal-returns t c =
-    let a = c .before .before .args in
-    rw (decimal-one (a .n) (c .if1 .taken)) (one-byte (a .out .now) (a .at) _)
-
-put-decimal-same-length-2 : (t : ℕ) → put-decimal-lts.Need-same-length-2 (
-  put-decimal-below t,
-  put-decimal.Post,
-) (put-decimal-at t) put-decimal.Post
-put-decimal-same-length-2 t c = search needs
-
-put-decimal-returns-2 : (t : ℕ) → put-decimal-lts.Need-returns-2 (
-  put-decimal-below t,
-  put-decimal.Post,
-) (put-decimal-at t) put-decimal.Post
-put-decimal-returns-2 t c =
-    let more = c .before .before .before .before in
-    rw (decimal-more _ (more .if1 .left)) (then (c .before .before .put-decimal .ensures) (one-byte _ _ _))
+  returns-2 : put-decimal-lts.Need-returns-2 (put-decimal-below t, put-decimal.Post) (put-decimal-at t) put-decimal.Post
+  returns-2 c =
+      let more = c .before .before .before .before in
+      rw (decimal-more _ (more .if1 .left)) (then (c .before .before .put-decimal .ensures) (one-byte _ _ _))
 
 pub +put-decimal-spec : {M : Type 1} → statement M
-+put-decimal-spec = close μ-put-decimal λ t. put-decimal-lts.spec (
-  put-decimal-below t,
-  put-decimal.Post,
-)
-    (put-decimal-at t)
-    put-decimal.Post
-    (put-decimal-cast-out t)
-    (put-decimal-add-out t)
-    (put-decimal-slice-write-out t)
-    (put-decimal-add-result t)
-    (put-decimal-put-decimal-requires t)
-    (put-decimal-cast-out-2 t)
-    (put-decimal-add-out-2 t)
-    (put-decimal-slice-write-out-2 t)
-    (put-decimal-add-result-2 t)
-    (put-decimal-same-length t)
-    (put-decimal-returns t)
-    (put-decimal-same-length-2 t)
-    (put-decimal-returns-2 t)
++put-decimal-spec = close μ-put-decimal λ t. put-decimal-lts.spec (put-decimal-below t, put-decimal.Post) (put-decimal-at t) put-decimal.Post
+    (λ c. search needs)
+    (λ c. search needs)
+    (slice-write-out t)
+    (λ c. search needs)
+    (put-decimal-requires t)
+    (λ c. search needs)
+    (λ c. search needs)
+    (slice-write-out-2 t)
+    (add-result-2 t)
+    (λ c. search needs)
+    (returns t)
+    (λ c. search needs)
+    (returns-2 t)
