@@ -1,7 +1,7 @@
-//! The bench card of paper 01, tried on the model; and codes of the library, read
-//! and worded by its wrapper.
+//! The bench card of paper 01, tried on the model.
 
-use crate::library::biss::{answer, Answer, Refusal};
+mod wrapper;
+
 use model::account::account;
 use model::check::{check_bits, command_word, register_word, BYTE_BITS, HEADER_BITS};
 use model::entry::{Entry, Kind, ENTRY_BYTES};
@@ -40,8 +40,7 @@ pub fn selftest() -> (usize, Vec<String>) {
     texts(&mut card);
     long_texts(&mut card);
     lists(&mut card);
-    codes(&mut card);
-    words(&mut card);
+    wrapper::tried(&mut card);
     (card.tried, card.failed)
 }
 
@@ -250,46 +249,6 @@ fn lists(card: &mut Card) {
     card.same("kind 0", list_to_text(&[0; 6], &mut text), Refused(12));
     card.same("kind 17", list_to_text(&[17; 6], &mut text), Refused(12));
     card.same("12 before 9", list_to_text(&[17; 6], &mut []), Refused(12));
-}
-
-const REFUSED: u64 = 1 << 63;
-const LINE: u64 = 512;
-const BYTE: u64 = 64;
-const LAST_LINE: usize = (1 << 53) - 1;
-
-/// Codes put together by hand, and what they say.
-const CODES: [(u64, Answer); 10] = [
-    (0, Ok(0)),
-    (46, Ok(46)),
-    (REFUSED - 1, Ok((1 << 63) - 1)),
-    (REFUSED + 1, Err(Refusal::Number(1))),
-    (REFUSED + 63, Err(Refusal::Number(63))),
-    (REFUSED + LINE + 13, in_text(13, 1, 0)),
-    (REFUSED + 47 * LINE + 2 * BYTE + 14, in_text(14, 47, 2)),
-    (REFUSED + 812 * LINE + BYTE + 15, in_text(15, 812, 1)),
-    (REFUSED + LINE + 7 * BYTE + 17, in_text(17, 1, 7)),
-    (REFUSED + LAST_LINE as u64 * LINE + 3 * BYTE + 16, in_text(16, LAST_LINE, 3)),
-];
-
-const fn in_text(number: u8, line: usize, byte: usize) -> Answer {
-    Err(Refusal::InText { number, line, byte })
-}
-
-fn codes(card: &mut Card) {
-    for (code, wanted) in CODES {
-        card.same(&format!("the code {code:x}"), answer(code), wanted);
-    }
-    let tab = Refusal::InText { number: 15, line: 812, byte: 1 };
-    card.same("a tab", tab.to_string().as_str(), "line 812, byte 1: tab missing");
-}
-
-/// The wrapper has the words of the table in biss.h; 11 is given no more.
-fn words(card: &mut Card) {
-    let table = include_str!("../../include/biss.h");
-    for number in 1..=17 {
-        let row = format!(" {number:>2}  {}", Refusal::Number(number));
-        card.same(&row, table.contains(&row), number != 11);
-    }
 }
 
 #[cfg(test)]
