@@ -1,10 +1,11 @@
 //! What must hold of the model by itself.
 
 use crate::compare::Left;
+use crate::conditions::has_its_start;
 use crate::generate::Random;
 use crate::job::{holding, Job};
 use model::account::rest_after;
-use model::entry::Entry;
+use model::entry::{Entry, ENTRY_BYTES};
 use model::list::list;
 
 pub fn must(holds: bool, what: &str) -> Result<(), String> {
@@ -26,6 +27,14 @@ pub fn check<J: Job>(case: &J, left: &Left<J>, seed: u64) -> Result<(), String> 
         must(untouched, "a refusal changes no lent byte")?;
     }
     case.check(&left.case, left.outcome, &mut Random::from_seed(!seed))
+}
+
+/// Every entry of a list's bytes carries the column of its frame's S.
+pub fn starts(cdm: &[u8], list: &[u8]) -> Result<(), String> {
+    match list.chunks(ENTRY_BYTES).find(|entry| !has_its_start(cdm, entry)) {
+        None => Ok(()),
+        Some(entry) => Err(format!("the start of {entry:?} is its frame's S")),
+    }
 }
 
 /// A reader let in late gives exactly the entries after the first run of

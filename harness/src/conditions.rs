@@ -1,4 +1,5 @@
-//! Conditions of refusals that several jobs have, and those of a text.
+//! Conditions of refusals that several jobs have, those of a text, and those of an
+//! entry's start.
 
 use model::Fault;
 
@@ -34,4 +35,19 @@ pub fn fault(text: &[u8]) -> Option<Fault> {
     };
     let (line, byte) = if place < 8 { (1, place) } else { (place / 4, place % 4) };
     Some(Fault { number, line, byte })
+}
+
+/// The start of an entry, given as its bytes, judged from the master row alone: a 1
+/// behind fourteen zeros, and from there to the entry no other fourteen are complete;
+/// in the entry's own column they are if it is an `end`, and only then.
+pub fn has_its_start(cdm: &[u8], entry: &[u8]) -> bool {
+    let number = |high: usize| usize::from(entry[high]) << 8 | usize::from(entry[high + 1]);
+    let (is_end, column, start) = (entry[0] == 15, number(1), number(3));
+    let rests = |from: usize| cdm[from..from + 14].iter().all(|&bit| bit == 0);
+    let is_in_row = 14 <= start && start < column && column < cdm.len();
+    is_in_row
+        && rests(start - 14)
+        && cdm[start] == 1
+        && !(start + 1..column - 13).any(rests)
+        && rests(column - 13) == is_end
 }

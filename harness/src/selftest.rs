@@ -1,11 +1,13 @@
-//! The bench card of paper 01, tried on the model.
+//! The bench card of paper 01, tried on the model, and starts, judged by the
+//! conditions.
 
 mod wrapper;
 
+use crate::conditions::has_its_start;
 use model::account::account;
 use model::check::{check_bits, command_word, register_word, BYTE_BITS, HEADER_BITS};
 use model::entry::{Entry, Kind, ENTRY_BYTES};
-use model::list::list;
+use model::list::{list, printed_at_most};
 use model::Outcome::{self, InText, Made, Refused};
 use model::{
     build_command, build_read, build_write, list_to_text, read, rows_to_text, run, text_to_rows,
@@ -33,6 +35,8 @@ pub fn selftest() -> (usize, Vec<String>) {
     check_values(&mut card);
     locks(&mut card);
     worked_run(&mut card);
+    starts(&mut card);
+    start_conditions(&mut card);
     other_runs(&mut card);
     limits(&mut card);
     easy_errors(&mut card);
@@ -78,7 +82,7 @@ fn locks(card: &mut Card) {
         let cdm = built_read(0, 0, 1);
         let cds = answers(slaves, &mut vec![0; 128 * slaves], &cdm);
         let first = list(&cdm, &cds, 0).first().copied();
-        let wanted = Some(Entry::of(Kind::Lock).at(23).value(lock));
+        let wanted = Some(Entry::of(Kind::Lock).at(23).start(14).value(lock));
         card.same(&format!("locks of {slaves} slaves"), first, wanted);
     }
 }
@@ -87,7 +91,7 @@ fn locks(card: &mut Card) {
 fn printed(cdm: &[u8], cds: &[u8]) -> String {
     let mut entries = vec![0; ENTRY_BYTES * cdm.len()];
     let Made(made) = read(cdm, cds, 0, &mut entries) else { return "refused".to_string() };
-    let mut text = vec![0; 100 + 40 * made];
+    let mut text = vec![0; printed_at_most(made)];
     let Made(length) = list_to_text(&entries[..ENTRY_BYTES * made], &mut text) else {
         return "refused".to_string();
     };
@@ -101,15 +105,54 @@ fn worked_run(card: &mut Card) {
     card.same("columns of the built read", cdm.len(), 46);
     cdm.push(0);
     let cds = answers(1, &mut registers, &cdm);
-    let whole = "event\tcolumn\tid\taddress\tvalue\n\
-                 lock\t23\t-\t-\t1\nread\t44\t0\t68\t90\nend\t46\t-\t-\t-\n";
-    card.same("the worked run", printed(&cdm, &cds), whole.to_string());
-    let without_end = whole.replace("end\t46\t-\t-\t-\n", "");
+    let header = "event\tcolumn\tstart\tid\taddress\tvalue\n";
+    let without_end = format!("{header}lock\t23\t14\t-\t-\t1\nread\t44\t14\t0\t68\t90\n");
+    let whole = format!("{without_end}end\t46\t14\t-\t-\t-\n");
+    card.same("the worked run", printed(&cdm, &cds), whole);
     card.same("last column taken off", printed(&cdm[..46], &cds[..46]), without_end);
     let late = answers(1, &mut registers, &cdm[1..]);
-    let none = "event\tcolumn\tid\taddress\tvalue\n".to_string();
-    card.same("thirteen zeros before S", printed(&cdm[1..], &late), none);
+    card.same("thirteen zeros before S", printed(&cdm[1..], &late), header.to_string());
     card.same("thirteen zeros: no answer", late.contains(&1), false);
+}
+
+/// Two frames, their S in columns 14 and 60, and the answers of one slave.
+fn two_frames() -> (Vec<u8>, Vec<u8>) {
+    let cdm = [&built_read(0, 0x44, 1)[..], &built_read(0, 0x44, 1), &[0]].concat();
+    let cds = answers(1, &mut [0; 128], &cdm);
+    (cdm, cds)
+}
+
+/// Counted from the start of the row, wherever the reader was let in.
+fn starts(card: &mut Card) {
+    let (cdm, cds) = two_frames();
+    let first = [(23, 14), (44, 14), (46, 14)];
+    let second = [(69, 60), (90, 60), (92, 60)];
+    let both = [first, second].concat();
+    let starts = |entries: Vec<Entry>| -> Vec<(usize, usize)> {
+        entries.iter().map(|entry| (entry.column, entry.start)).collect()
+    };
+    card.same("starts of two frames", starts(list(&cdm, &cds, 0)), both.clone());
+    let account = account(1, &[3; 128], &[0; 128], &cdm);
+    card.same("starts in the account", starts(account.entries), both);
+    card.same("let in within a frame", starts(list(&cdm, &cds, 30)), second.to_vec());
+    card.same("opened at the frame", starts(list(&cdm, &cds, 60 - 14)), second.to_vec());
+    card.same("opened one later", starts(list(&cdm, &cds, 60 - 13)), vec![]);
+}
+
+/// Of all columns one alone is the start of an entry.
+fn start_conditions(card: &mut Card) {
+    let (cdm, cds) = two_frames();
+    let fits = |entry: Entry| has_its_start(&cdm, &entry.bytes());
+    for entry in list(&cdm, &cds, 0) {
+        let fitting: Vec<usize> =
+            (0..cdm.len()).filter(|&start| fits(entry.start(start))).collect();
+        card.same(&format!("the start of {entry:?}"), fitting, vec![entry.start]);
+    }
+    let end = Entry::of(Kind::End).start(14);
+    card.same("an end before rest", fits(end.at(45)), false);
+    card.same("an end after rest", fits(end.at(47)), false);
+    card.same("a read at rest", fits(Entry::of(Kind::Read).start(14).at(46)), false);
+    card.same("an end past the row", fits(Entry::of(Kind::End).start(60).at(93)), false);
 }
 
 fn other_runs(card: &mut Card) {
@@ -238,17 +281,22 @@ fn long_texts(card: &mut Card) {
 }
 
 fn lists(card: &mut Card) {
-    let mut text = [9; 60];
-    let entry = [10, 1, 0, 0, 68, 90];
-    card.same("a printed list", list_to_text(&entry, &mut text), Made(47));
-    let wanted = b"event\tcolumn\tid\taddress\tvalue\nread\t256\t0\t68\t90\n";
-    card.same("its bytes", &text[..48], &[&wanted[..], &[9]].concat()[..]);
-    card.same("an empty list", list_to_text(&[], &mut text), Made(30));
-    card.same("one byte short", list_to_text(&entry, &mut text[..46]), Refused(9));
-    card.same("five bytes", list_to_text(&entry[..5], &mut text), Refused(12));
-    card.same("kind 0", list_to_text(&[0; 6], &mut text), Refused(12));
-    card.same("kind 17", list_to_text(&[17; 6], &mut text), Refused(12));
-    card.same("12 before 9", list_to_text(&[17; 6], &mut []), Refused(12));
+    let mut text = [9; 80];
+    let entry = [10, 2, 16, 1, 242, 0, 68, 90];
+    card.same("a printed list", list_to_text(&entry, &mut text), Made(57));
+    let wanted = b"event\tcolumn\tstart\tid\taddress\tvalue\nread\t528\t498\t0\t68\t90\n";
+    card.same("its bytes", &text[..58], &[&wanted[..], &[9]].concat()[..]);
+    card.same("an empty list", list_to_text(&[], &mut text), Made(36));
+    card.same("one byte short", list_to_text(&entry, &mut text[..56]), Refused(9));
+    for length in (1..24).filter(|length| length % 8 != 0) {
+        let ragged = [entry; 3].concat()[..length].to_vec();
+        card.same(&format!("{length} bytes"), list_to_text(&ragged, &mut text), Refused(12));
+    }
+    card.same("kind 0", list_to_text(&[0; 8], &mut text), Refused(12));
+    card.same("kind 17", list_to_text(&[17; 8], &mut text), Refused(12));
+    card.same("12 before 9", list_to_text(&[17; 8], &mut []), Refused(12));
+    let longest = [13, 255, 255, 255, 255, 255, 255, 255];
+    card.same("the longest line", list_to_text(&longest, &mut text), Made(36 + 33));
 }
 
 #[cfg(test)]

@@ -25,7 +25,7 @@ pub fn account<'a>(slaves: usize, rights: &'a [u8], registers: &[u8], cdm: &[u8]
         let stop = rest.unwrap_or(cdm.len());
         account.frame(start, &cdm[start..stop]);
         if let Some(column) = rest {
-            account.entries.push(Entry::of(Kind::End).at(column));
+            account.note(start, column - start, Entry::of(Kind::End));
         }
     }
     account
@@ -48,8 +48,9 @@ fn number(bits: &[u8]) -> u16 {
 }
 
 impl Account<'_> {
-    fn note(&mut self, column: usize, entry: Entry) {
-        self.entries.push(entry.at(column));
+    /// Notes an entry so many columns after its frame's S.
+    fn note(&mut self, start: usize, after: usize, entry: Entry) {
+        self.entries.push(entry.at(start + after).start(start));
     }
 
     /// `frame` is the columns from S on that lie before a fourteenth zero.
@@ -59,17 +60,17 @@ impl Account<'_> {
             return;
         }
         let locks = self.slaves.min(9) as u8;
-        self.note(start + idl8, Entry::of(Kind::Lock).value(locks));
+        self.note(start, idl8, Entry::of(Kind::Lock).value(locks));
         if frame.len() <= 15 {
             return;
         }
         let word = number(&frame[1..12]);
         if number(&frame[12..16]) != u16::from(check_bits(word, HEADER_BITS)) {
-            self.note(start + 15, Entry::of(Kind::BadHead));
+            self.note(start, 15, Entry::of(Kind::BadHead));
         } else if frame[1] == 0 {
             let cmd = (word & 3) as u8;
             let ids = (word >> 2) as u8;
-            self.note(start + 15, Entry::of(Kind::Command).place(cmd, 0).value(ids));
+            self.note(start, 15, Entry::of(Kind::Command).place(cmd, 0).value(ids));
         } else if frame.len() > 17 {
             self.register_access(start, frame);
         }
@@ -86,16 +87,16 @@ impl Account<'_> {
         } else if !self.is_allowed(id, address, w == 1) {
             Kind::Refused
         } else {
-            return self.bytes(start + 18, &frame[18..], id, address, w == 1);
+            return self.bytes(start, &frame[18..], id, address, w == 1);
         };
         let value = if kind == Kind::Refused { w } else { 0 };
-        self.note(start + 17, Entry::of(kind).place(id, address).value(value));
+        self.note(start, 17, Entry::of(kind).place(id, address).value(value));
     }
 
     /// `columns` are those after W; byte n has the fourteen from 14n on.
-    fn bytes(&mut self, first: usize, columns: &[u8], id: u8, address: u8, writing: bool) {
+    fn bytes(&mut self, start: usize, columns: &[u8], id: u8, address: u8, writing: bool) {
         for (n, byte) in columns.chunks(14).enumerate() {
-            let column = first + 14 * n;
+            let after = 18 + 14 * n;
             let address = address + n as u8;
             if byte[0] == 0 || byte.len() <= 12 {
                 return;
@@ -103,13 +104,13 @@ impl Account<'_> {
             let kind = if writing { self.write(id, address, byte) } else { Kind::Read };
             let value =
                 if writing { number(&byte[1..9]) as u8 } else { self.register(id, address) };
-            self.note(column + 12, Entry::of(kind).place(id, address).value(value));
+            self.note(start, after + 12, Entry::of(kind).place(id, address).value(value));
             if byte.len() <= 13 {
                 return;
             }
             let next_is_good = address < 127 && self.is_allowed(id, address + 1, writing);
             if n + 1 == 64 || !next_is_good || kind == Kind::WriteBad {
-                self.note(column + 13, Entry::of(Kind::Closed).place(id, address));
+                self.note(start, after + 13, Entry::of(Kind::Closed).place(id, address));
                 return;
             }
         }

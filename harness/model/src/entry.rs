@@ -1,15 +1,17 @@
-//! "Six bytes: kind, column (two bytes, high first), id, address, value."
+//! Eight bytes: "kind, column (two bytes, high first)", "two bytes for S placed
+//! after the column", "id, address, value".
 
 use std::ops::Range;
 
-pub const ENTRY_BYTES: usize = 6;
+pub const ENTRY_BYTES: usize = 8;
 
 /// Where a field stands among them.
 pub const KIND: usize = 0;
 pub const COLUMN: Range<usize> = 1..3;
-pub const ID: usize = 3;
-pub const ADDRESS: usize = 4;
-pub const VALUE: usize = 5;
+pub const START: Range<usize> = 3..5;
+pub const ID: usize = 5;
+pub const ADDRESS: usize = 6;
+pub const VALUE: usize = 7;
 
 #[derive(Clone, Copy, PartialEq, Eq, Debug)]
 pub enum Kind {
@@ -36,6 +38,8 @@ pub enum Kind {
 pub struct Entry {
     pub kind: Kind,
     pub column: usize,
+    /// The column of its frame's S.
+    pub start: usize,
     pub id: u8,
     pub address: u8,
     pub value: u8,
@@ -43,11 +47,15 @@ pub struct Entry {
 
 impl Entry {
     pub fn of(kind: Kind) -> Entry {
-        Entry { kind, column: 0, id: 0, address: 0, value: 0 }
+        Entry { kind, column: 0, start: 0, id: 0, address: 0, value: 0 }
     }
 
     pub fn at(self, column: usize) -> Entry {
         Entry { column, ..self }
+    }
+
+    pub fn start(self, start: usize) -> Entry {
+        Entry { start, ..self }
     }
 
     pub fn place(self, id: u8, address: u8) -> Entry {
@@ -59,10 +67,25 @@ impl Entry {
     }
 
     pub fn bytes(self) -> [u8; ENTRY_BYTES] {
-        let high = (self.column >> 8) as u8;
-        let low = (self.column & 0xFF) as u8;
-        [self.kind as u8, high, low, self.id, self.address, self.value]
+        let mut bytes = [0; ENTRY_BYTES];
+        bytes[KIND] = self.kind as u8;
+        bytes[COLUMN].copy_from_slice(&two_bytes(self.column));
+        bytes[START].copy_from_slice(&two_bytes(self.start));
+        bytes[ID] = self.id;
+        bytes[ADDRESS] = self.address;
+        bytes[VALUE] = self.value;
+        bytes
     }
+}
+
+/// A column as "two bytes, high first".
+fn two_bytes(column: usize) -> [u8; 2] {
+    [(column >> 8) as u8, (column & 0xFF) as u8]
+}
+
+/// The column that such bytes hold.
+pub fn column_in(bytes: &[u8]) -> usize {
+    bytes.iter().fold(0, |high, &low| high << 8 | usize::from(low))
 }
 
 /// How a kind is printed: its name and which fields it names.

@@ -2,13 +2,10 @@
 //! the line of a refusal.
 
 use super::entry::ENTRY_BYTES;
+use super::list::printed_at_most;
 use super::rows::MOST_COLUMNS;
 use super::Outcome::{InText, Made, Refused};
 use super::{list_to_text, read, text_to_rows, Fault};
-
-/// A kind of at most eight letters, four numbers of at most five digits, four
-/// tabs and a line feed.
-const LONGEST_LINE: usize = 8 + 4 * 5 + 4 + 1;
 
 /// What the program prints.
 pub fn index(text: &[u8], opening: usize) -> Vec<u8> {
@@ -26,7 +23,7 @@ pub fn index(text: &[u8], opening: usize) -> Vec<u8> {
         Refused(number) => return format!("refused\t{number}\n").into_bytes(),
         InText(fault) => panic!("read answered {fault:?}"),
     };
-    let mut printed = vec![0; LONGEST_LINE * (1 + entries)];
+    let mut printed = vec![0; printed_at_most(entries)];
     match list_to_text(&list[..ENTRY_BYTES * entries], &mut printed) {
         Made(bytes) => printed.truncate(bytes),
         other => panic!("the list of an admitted text was refused: {other:?}"),

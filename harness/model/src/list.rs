@@ -1,10 +1,21 @@
 //! Lists: the reading of two rows, and the printing of a list.
 
-use super::entry::{Entry, ADDRESS, COLUMN, ENTRY_BYTES, FORMS, ID, KIND, VALUE};
+use super::entry::{column_in, Entry, ADDRESS, COLUMN, ENTRY_BYTES, FORMS, ID, KIND, START, VALUE};
 use super::phase::Met;
 use super::reader::Reader;
 use super::rows::refusal_of_rows;
 use super::Outcome::{self, Made, Refused};
+
+const LIST_HEADER: &str = "event\tcolumn\tstart\tid\taddress\tvalue\n";
+
+/// A kind of at most eight letters, two numbers of at most five digits and three of
+/// at most three, five tabs and a line feed.
+const LONGEST_LINE: usize = 8 + 2 * 5 + 3 * 3 + 5 + 1;
+
+/// The most bytes that the text of a list of so many entries can have.
+pub fn printed_at_most(entries: usize) -> usize {
+    LIST_HEADER.len() + LONGEST_LINE * entries
+}
 
 /// The list of a reader let in at column `opening`, which knows nothing of the
 /// columns before it.
@@ -12,8 +23,8 @@ pub fn list(cdm: &[u8], cds: &[u8], opening: usize) -> Vec<Entry> {
     let mut reader = Reader::let_in();
     let mut entries = Vec::new();
     for column in opening..cdm.len() {
-        if let Some(entry) = reader.step(cdm[column], cds[column]) {
-            entries.push(entry.at(column));
+        if let Some(entry) = reader.step(column, cdm[column], cds[column]) {
+            entries.push(entry);
         }
     }
     entries
@@ -25,7 +36,7 @@ pub fn phases(cdm: &[u8], cds: &[u8], opening: usize) -> Met {
     let mut met = Met::none();
     for column in opening..cdm.len() {
         met.meet(reader.phase());
-        reader.step(cdm[column], cds[column]);
+        reader.step(column, cdm[column], cds[column]);
     }
     met
 }
@@ -58,11 +69,12 @@ fn field(is_named: bool, value: u8) -> String {
 
 fn line(entry: &[u8]) -> String {
     let form = &FORMS[usize::from(entry[KIND]) - 1];
-    let column = entry[COLUMN].iter().fold(0, |high, &low| high << 8 | usize::from(low));
+    let column = column_in(&entry[COLUMN]);
+    let start = column_in(&entry[START]);
     let id = field(form.id, entry[ID]);
     let address = field(form.address, entry[ADDRESS]);
     let value = field(form.value, entry[VALUE]);
-    format!("{}\t{column}\t{id}\t{address}\t{value}\n", form.name)
+    format!("{}\t{column}\t{start}\t{id}\t{address}\t{value}\n", form.name)
 }
 
 /// The job that prints a list.
@@ -72,7 +84,7 @@ pub fn list_to_text(list: &[u8], out: &mut [u8]) -> Outcome {
     if !entries.remainder().is_empty() || has_bad_kind {
         return Refused(12);
     }
-    let mut text = "event\tcolumn\tid\taddress\tvalue\n".to_string();
+    let mut text = LIST_HEADER.to_string();
     entries.for_each(|entry| text.push_str(&line(entry)));
     if out.len() < text.len() {
         return Refused(9);

@@ -52,6 +52,8 @@ enum Awaits {
 pub struct Reader {
     zeros: Zeros,
     frame_begun: bool,
+    /// The column of S of the present frame, or of the last one.
+    start: usize,
     /// The lock value of the present frame.
     lock: u8,
     awaits: Awaits,
@@ -59,11 +61,19 @@ pub struct Reader {
 
 impl Reader {
     pub fn let_in() -> Reader {
-        Reader { zeros: Zeros::none_yet(), frame_begun: false, lock: 0, awaits: Awaits::Rest }
+        let zeros = Zeros::none_yet();
+        Reader { zeros, frame_begun: false, start: 0, lock: 0, awaits: Awaits::Rest }
+    }
+
+    /// Takes a column, counted from the start of the row, and its two bits.
+    #[inline]
+    pub fn step(&mut self, column: usize, cdm: u8, cds: u8) -> Option<Entry> {
+        let event = self.event(column, cdm, cds)?;
+        Some(event.at(column).start(self.start))
     }
 
     #[inline]
-    pub fn step(&mut self, cdm: u8, cds: u8) -> Option<Entry> {
+    fn event(&mut self, column: usize, cdm: u8, cds: u8) -> Option<Entry> {
         if self.zeros.rest_after(cdm) {
             self.awaits = Awaits::Start;
             let ends = self.frame_begun;
@@ -72,7 +82,7 @@ impl Reader {
         }
         match self.awaits {
             Awaits::Rest => None,
-            Awaits::Start => self.start(cdm),
+            Awaits::Start => self.begin(column, cdm),
             Awaits::Header { column, bits, locks } => {
                 self.header(column, bits << 1 | u16::from(cdm), locks << 1 | u16::from(cds))
             }
@@ -115,9 +125,10 @@ impl Reader {
         Some(entry)
     }
 
-    fn start(&mut self, cdm: u8) -> Option<Entry> {
+    fn begin(&mut self, column: usize, cdm: u8) -> Option<Entry> {
         if cdm == 1 {
             self.frame_begun = true;
+            self.start = column;
             self.awaits = Awaits::Header { column: 1, bits: 0, locks: 0 };
         }
         None

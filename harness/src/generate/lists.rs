@@ -3,7 +3,7 @@
 use super::random::Random;
 use super::recordings::recording;
 use super::Marks;
-use model::entry::{COLUMN, ENTRY_BYTES, KIND};
+use model::entry::{COLUMN, ENTRY_BYTES, ID, KIND, START};
 use model::list::list;
 
 /// What a spoiled list is marked with.
@@ -24,9 +24,10 @@ pub fn list_bytes(random: &mut Random) -> Vec<u8> {
 fn entry(random: &mut Random) -> Vec<u8> {
     let mut entry = random.bytes(ENTRY_BYTES);
     if random.one_in(3) {
-        let column = random.pick(&[0u16, 9, 10, 99, 100, 999, 1000, 4095, 9999, 10000, u16::MAX]);
-        entry[COLUMN].copy_from_slice(&column.to_be_bytes());
-        entry[COLUMN.end..].fill_with(|| random.pick(&[0, 1, 9, 10, 99, 100, 199, 255]));
+        let columns = [0u16, 9, 10, 99, 100, 999, 1000, 4095, 9999, 10000, u16::MAX];
+        entry[COLUMN].copy_from_slice(&random.pick(&columns).to_be_bytes());
+        entry[START].copy_from_slice(&random.pick(&columns).to_be_bytes());
+        entry[ID..].fill_with(|| random.pick(&[0, 1, 9, 10, 99, 100, 199, 255]));
     }
     entry[KIND] = random.between(1, 16) as u8;
     entry
@@ -45,7 +46,7 @@ pub fn spoil_list(random: &mut Random, list: &mut Vec<u8>) -> Marks {
         marks.push(LIST_SPOILS[spoil]);
     }
     if marks.is_empty() || random.one_in(4) {
-        let length = list.len() + random.between(1, 5);
+        let length = list.len() + random.between(1, ENTRY_BYTES - 1);
         let kind = random.between(0, 20) as u8;
         list.resize(length, kind);
         marks.push("ragged");

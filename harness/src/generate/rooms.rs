@@ -3,6 +3,7 @@
 use super::random::Random;
 use super::Marks;
 use crate::lent::Lent;
+use model::entry::ENTRY_BYTES;
 
 /// What a case with room for a result is marked with.
 pub const ROOMS: [&str; 5] = ["exact room", "more room", "one short", "shorter", "no room"];
@@ -13,7 +14,7 @@ pub fn room(random: &mut Random, marks: &mut Marks, needed: usize, too_small: bo
         let less = random.below(needed);
         random.pick(&[0, needed - 1, needed - 1, less])
     } else {
-        needed + random.pick(&[0, 0, 0, 1, 5, 6, 7, 100])
+        needed + random.pick(&[0, 0, 0, 1, ENTRY_BYTES - 1, ENTRY_BYTES, ENTRY_BYTES + 1, 100])
     };
     marks.push(match length {
         _ if length == needed => "exact room",

@@ -8,11 +8,8 @@ use crate::generate::{room, Marks, Provoked, Random};
 use crate::job::{fields, Job, Refusals};
 use crate::lent::Lent;
 use model::entry::{ENTRY_BYTES, KIND};
+use model::list::printed_at_most;
 use model::Outcome::{self, Made};
-
-/// The header's bytes, and the most that an entry's line can have.
-const HEADER: usize = 30;
-const LONGEST_LINE: usize = 27;
 
 fields!(ListToText { ; list: List, out: Room });
 
@@ -82,7 +79,7 @@ impl ListToText {
 
 /// The bytes of a list's text, if it has one.
 fn printed_bytes(list: &[u8]) -> Option<usize> {
-    let mut ample = vec![0; HEADER + LONGEST_LINE * list.len() / ENTRY_BYTES];
+    let mut ample = vec![0; printed_at_most(list.len() / ENTRY_BYTES)];
     match model::list_to_text(list, &mut ample) {
         Made(bytes) => Some(bytes),
         _ => None,

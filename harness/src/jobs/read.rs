@@ -2,7 +2,7 @@
 
 use super::Calls;
 use crate::bench::{rows, Timed};
-use crate::checks::late_opening;
+use crate::checks::{late_opening, starts};
 use crate::conditions::{bad_byte, too_long};
 use crate::counts::{Count, Counts};
 use crate::generate::provoked::{TWO_16, TWO_32};
@@ -11,7 +11,7 @@ use crate::generate::{room, Marks, Provoked, Random};
 use crate::job::{fields, Job, Refusals};
 use crate::lent::Lent;
 use model::entry::ENTRY_BYTES;
-use model::list::{list, phases};
+use model::list::{list, phases, printed_at_most};
 use model::Outcome::{self, Made};
 
 fields!(Read { opening: usize; cdm: Row, cds: Row, out: Room; answers: Answers });
@@ -50,13 +50,14 @@ impl Job for Read {
         calls.read(&self.cdm, &self.cds, self.opening, &mut self.out)
     }
 
-    fn check(&self, _: &Read, outcome: Outcome, random: &mut Random) -> Result<(), String> {
-        let Made(_) = outcome else { return Ok(()) };
+    fn check(&self, left: &Read, outcome: Outcome, random: &mut Random) -> Result<(), String> {
+        let Made(made) = outcome else { return Ok(()) };
+        starts(&self.cdm, left.list(made))?;
         late_opening(&self.cdm, &self.cds, random)
     }
 
     fn count(&self, left: &Read, made: usize, counts: &mut Counts) {
-        counts.add_list(self.answers, &left.out[..ENTRY_BYTES * made]);
+        counts.add_list(self.answers, left.list(made));
         let met = phases(&self.cdm, &self.cds, self.opening);
         counts.add_phases(Count::ReaderAt, &met);
     }
@@ -110,10 +111,15 @@ impl Read {
             answers: Answers::Honest,
         }
     }
+
+    /// The list of so many entries that a call left.
+    fn list(&self, made: usize) -> &[u8] {
+        &self.out[..ENTRY_BYTES * made]
+    }
 }
 
 fn printed(list: &[u8]) -> String {
-    let mut text = vec![0; 40 + 60 * list.len()];
+    let mut text = vec![0; printed_at_most(list.len() / ENTRY_BYTES)];
     match model::list_to_text(list, &mut text) {
         Made(bytes) => String::from_utf8_lossy(&text[..bytes]).to_string(),
         _ => format!("{list:?}\n"),

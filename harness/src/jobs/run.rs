@@ -2,7 +2,7 @@
 
 use super::Calls;
 use crate::bench::{rows, Timed};
-use crate::checks::{late_opening, must};
+use crate::checks::{late_opening, must, starts};
 use crate::conditions::{bad_byte, too_long};
 use crate::counts::{Count, Counts};
 use crate::generate::chains::{chain_and_row, chain_of};
@@ -75,6 +75,8 @@ impl Job for Run {
         must(account.registers == left.registers[..], "the account's registers are the chain's")?;
         must(replayed == left.registers[..], "replay gives the final registers")?;
         must(reads_show_what_stood(&self.registers, &entries), "reads show what stood there")?;
+        let account: Vec<u8> = account.entries.iter().flat_map(|entry| entry.bytes()).collect();
+        starts(&self.cdm, &account)?;
         late_opening(&self.cdm, &left.cds, random)?;
         self.check_two_runs(left, random)
     }
