@@ -1,6 +1,6 @@
-/* A master writes 5B to register 44 (hexadecimal) of the only slave of a chain; what was recorded is read back as a list and printed,
- * and carried to text and back. One text and one call are refused. Then channel places in a chain of three. Every answer is checked: the
- * program ends with 1 where one is not as expected. */
+/* A master reads register 44 (hexadecimal) of the only slave of a chain and then writes 5B to it; what was recorded is read back as a
+ * list and printed, opened again at the frame of the write, and carried to text and back. One text and one call are refused. Then channel
+ * places in a chain of three. Every answer is checked: the program ends with 1 where one is not as expected. */
 #include "../include/biss.h"
 
 #include <stdio.h>
@@ -22,23 +22,29 @@ static uint8_t *lent(size_t length, uint8_t filled) {
     return buffer;
 }
 
-/* 30 bytes for the header, at most 27 for an entry. */
 static void print_list(const uint8_t *list, size_t entries) {
-    uint8_t *text = lent(30 + 27 * entries, 0);
-    uint64_t bytes = biss_list_to_text(list, 6 * entries, text, 30 + 27 * entries);
+    size_t most = BISS_LIST_HEADER_BYTES + BISS_LIST_LINE_BYTES * entries;
+    uint8_t *text = lent(most, 0);
+    uint64_t bytes = biss_list_to_text(list, BISS_ENTRY_BYTES * entries, text, most);
     expect(!biss_is_refused(bytes), "a list that was read can be printed");
     fwrite(text, 1, bytes, stdout);
     free(text);
 }
 
-/* Two entries for one good write: the locks, and the byte written. */
-static void list_write(const uint8_t *cdm, const uint8_t *cds, size_t columns) {
-    uint8_t *list = lent(12, 0);
-    expect(biss_read(cdm, columns, cds, columns, 0, list, 12) == 2, "the list has two entries");
-    expect(list[6] == 11 && list[10] == 0x44 && list[11] == 0x5B, "the second is the write");
-    print_list(list, 2);
-    expect(biss_read(cdm, columns, cds, columns, 1, list, 12) == 0, "a reader let in one column later lists nothing");
-    free(list);
+/* Five entries: the locks, the byte read and the end of that frame; the locks, and the byte written. */
+static void list_both(const uint8_t *cdm, const uint8_t *cds, size_t columns) {
+    size_t bytes = 5 * BISS_ENTRY_BYTES;
+    uint8_t *list = lent(bytes, 0), *again = lent(bytes, 0);
+    expect(biss_read(cdm, columns, cds, columns, 0, list, bytes) == 5, "the list has five entries");
+    const uint8_t *written = list + 4 * BISS_ENTRY_BYTES;
+    expect(written[BISS_KIND] == 11 && written[BISS_ADDRESS] == 0x44 && written[BISS_VALUE] == 0x5B, "the last is the write");
+    print_list(list, 5);
+    size_t opening = biss_start(written) - BISS_REST;
+    expect(biss_read(cdm, columns, cds, columns, opening, again, bytes) == 2, "the frame of the write has two entries");
+    expect(memcmp(again + BISS_ENTRY_BYTES, written, BISS_ENTRY_BYTES) == 0, "the second is the same entry");
+    printf("written in column %zu; opened again at %zu: the same entry\n", biss_column(written), opening);
+    expect(biss_read(cdm, columns, cds, columns, opening + 1, again, bytes) == 0, "a reader let in one column later lists nothing");
+    free(list), free(again);
 }
 
 /* Rows go to text and back unchanged; a text whose last column has a 2 is refusal 14, with the 2's line and byte. */
@@ -74,13 +80,15 @@ static void refused_run(const uint8_t *cdm, size_t columns, uint8_t *registers, 
 int main(void) {
     const uint8_t byte = 0x5B;
     uint8_t *row = lent(4096, 0);
-    uint64_t columns = biss_build_write(0, 0x44, &byte, 1, row, 4096);
-    expect(!biss_is_refused(columns), "the write is built");
+    uint64_t read = biss_build_read(0, 0x44, 1, row, 4096), write = biss_build_write(0, 0x44, &byte, 1, row, 4096);
+    expect(!biss_is_refused(read) && !biss_is_refused(write), "the read and the write are built");
+    size_t columns = read + write;
     uint8_t *cdm = lent(columns, 0), *cds = lent(columns, 0), *registers = lent(128, 0), *rights = lent(128, 3);
-    expect(biss_build_write(0, 0x44, &byte, 1, cdm, columns) == columns, "it fits where it just fits");
+    expect(biss_build_read(0, 0x44, 1, cdm, read) == read, "the read fits where it just fits");
+    expect(biss_build_write(0, 0x44, &byte, 1, cdm + read, write) == write, "and so does the write behind it");
     expect(biss_run(1, rights, 128, registers, 128, cdm, columns, cds, columns) == columns, "the chain answers every column");
     expect(registers[0x44] == 0x5B, "the register holds what was written");
-    list_write(cdm, cds, columns);
+    list_both(cdm, cds, columns);
     carry_rows(cdm, cds, columns);
     refused_run(cdm, columns, registers, rights);
     expect(biss_run(0, NULL, 0, NULL, 0, cdm, columns, cds, columns) == columns, "a chain of no slaves is a chain");

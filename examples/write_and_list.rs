@@ -1,26 +1,34 @@
-//! A master writes 5B to register 44 (hexadecimal) of the only slave of a chain; what was recorded is read back as a list and printed,
-//! and carried to text and back. One text and one call are refused. Then channel places in a chain of three. Every answer is asserted.
+//! A master reads register 44 (hexadecimal) of the only slave of a chain and then writes 5B to it; what was recorded is read back as a
+//! list and printed, opened again at the frame of the write, and carried to text and back. One text and one call are refused. Then
+//! channel places in a chain of three. Every answer is asserted.
 
 #[path = "../include/biss.rs"]
 #[allow(dead_code)]
 mod biss;
-use biss::{ChannelPlace, Refusal};
+use biss::{ChannelPlace, Refusal, ENTRY_BYTES, LIST_HEADER_BYTES, LIST_LINE_BYTES, REST};
 
 fn main() {
     let mut row = [0; 4096];
-    let columns = biss::build_write(0, 0x44, &[0x5B], &mut row).expect("the write is built");
+    let read = biss::build_read(0, 0x44, 1, &mut row).expect("the read is built");
+    let behind = &mut row[read..];
+    let columns = read + biss::build_write(0, 0x44, &[0x5B], behind).expect("the write is built");
     let cdm = &row[..columns];
     let (mut cds, mut registers, mut rights) = (vec![0; columns], [0; 128], [3; 128]);
     assert_eq!(biss::run(1, &rights, &mut registers, cdm, &mut cds), Ok(columns));
     assert_eq!(registers[0x44], 0x5B);
 
-    let mut list = [0; 12];
-    assert_eq!(biss::read(cdm, &cds, 0, &mut list), Ok(2));
-    assert_eq!((list[6], list[10], list[11]), (11, 0x44, 0x5B));
-    let mut text = [0; 30 + 2 * 27];
+    let mut list = [0; 5 * ENTRY_BYTES];
+    assert_eq!(biss::read(cdm, &cds, 0, &mut list), Ok(5));
+    let written = biss::entries(&list).last().expect("five entries");
+    assert_eq!((written.kind, written.address, written.value), (11, 0x44, 0x5B));
+    let mut text = [0; LIST_HEADER_BYTES + 5 * LIST_LINE_BYTES];
     let bytes = biss::list_to_text(&list, &mut text).expect("a list that was read can be printed");
     print!("{}", String::from_utf8_lossy(&text[..bytes]));
-    assert_eq!(biss::read(cdm, &cds, 1, &mut list), Ok(0));
+    let (mut again, opening) = ([0; 2 * ENTRY_BYTES], written.start - REST);
+    assert_eq!(biss::read(cdm, &cds, opening, &mut again), Ok(2));
+    assert_eq!(biss::entries(&again).last(), Some(written));
+    println!("written in column {}; opened again at {opening}: the same entry", written.column);
+    assert_eq!(biss::read(cdm, &cds, opening + 1, &mut again), Ok(0));
 
     let mut text = vec![0; 8 + 4 * columns];
     assert_eq!(biss::rows_to_text(cdm, &cds, &mut text), Ok(text.len()));
@@ -30,7 +38,7 @@ fn main() {
     let refusal =
         biss::text_to_rows(&text, &mut cdm_back, &mut cds_back).expect_err("a 2 is no bit");
     assert_eq!(refusal, Refusal::InText { number: 14, line: columns + 1, byte: 2 });
-    assert_eq!(refusal.to_string(), "line 47, byte 2: digit not 0 or 1");
+    assert_eq!(refusal.to_string(), "line 93, byte 2: digit not 0 or 1");
     println!("a text with a 2: refusal {}, line {}, byte 2", refusal.number(), columns + 1);
     text[last_digit] = b'0' + cds[columns - 1];
     assert_eq!(biss::text_to_rows(&text, &mut cdm_back, &mut cds_back), Ok(columns));

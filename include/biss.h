@@ -4,7 +4,7 @@
  * BISS_REFUSED set, a refusal, and then no lent byte has changed. biss_is_refused, biss_refusal, biss_line and biss_byte below read an
  * answer. Of a job's refusals the first that holds is told, in the order that its call names:
  *
- *    1  more than 16 slaves                           12  list length no multiple of 6, or a kind outside 1 to 16
+ *    1  more than 16 slaves                           12  list length no multiple of 8, or a kind outside 1 to 16
  *    2  registers not 128 x slaves bytes              13  a wrong byte in the header line
  *    3  rights not 128 x slaves bytes                 14  digit not 0 or 1
  *    4  a right above 3                               15  tab missing
@@ -21,8 +21,8 @@
  *
  * A buffer is a pointer and its length in bytes. It has to be as long as is said, and a buffer that a call writes must not overlap
  * another of the same call: this is all that a caller has to see to, for C cannot check it. A pointer of length 0 is not followed.
- * A row is one byte a column, 0 or 1; registers and rights are 128 bytes a slave, the far slave first; an entry is six bytes: kind,
- * column (high byte first), ID, address, value. Texts are not ended by a zero byte. */
+ * A row is one byte a column, 0 or 1; registers and rights are 128 bytes a slave, the far slave first; an entry is its kind,
+ * column, start, ID, address and value: one byte each, column and start two, high byte first. Texts are not ended by a zero byte. */
 #ifndef BISS_H
 #define BISS_H
 
@@ -37,6 +37,20 @@ static inline int biss_is_refused(uint64_t answer) { return (answer & BISS_REFUS
 static inline unsigned biss_refusal(uint64_t answer) { return biss_is_refused(answer) ? (unsigned)(answer & 0x3F) : 0; }
 static inline uint64_t biss_line(uint64_t answer) { return biss_is_refused(answer) ? (answer >> 9) & ((UINT64_C(1) << 53) - 1) : 0; }
 static inline unsigned biss_byte(uint64_t answer) { return biss_is_refused(answer) ? (unsigned)(answer >> 6) & 7 : 0; }
+
+/* Where each field of an entry begins, and how many bytes an entry has. */
+enum { BISS_KIND = 0, BISS_COLUMN = 1, BISS_START = 3, BISS_ID = 5, BISS_ADDRESS = 6, BISS_VALUE = 7, BISS_ENTRY_BYTES = 8 };
+
+/* The column of an entry, and that of the start bit S of its frame; both count from the start of the row, wherever the reader opened. */
+static inline size_t biss_column(const uint8_t *entry) { return (size_t)entry[BISS_COLUMN] << 8 | entry[BISS_COLUMN + 1]; }
+static inline size_t biss_start(const uint8_t *entry) { return (size_t)entry[BISS_START] << 8 | entry[BISS_START + 1]; }
+
+/* The master zeros that stand before every start bit. A reader that opens at biss_start(entry) - BISS_REST lists that entry again, byte
+ * for byte: it lists just what the first list has from the entry's frame on. */
+enum { BISS_REST = 14 };
+
+/* The bytes of the header of a list's text, and the most that the line of an entry has. */
+enum { BISS_LIST_HEADER_BYTES = 36, BISS_LIST_LINE_BYTES = 33 };
 
 /* Builds the master row of a read of `count` registers of the slave `id`, from `address` on, into the first bytes of `out`.
  * Refusals 10, 9. */
@@ -54,8 +68,8 @@ uint64_t biss_build_command(uint8_t ids, uint8_t cmd, uint8_t *out, size_t out_l
 uint64_t biss_run(size_t slaves, const uint8_t *rights, size_t rights_length, uint8_t *registers, size_t registers_length,
                   const uint8_t *cdm, size_t cdm_length, uint8_t *cds, size_t cds_length);
 
-/* Lists the entries that two recorded rows show to a reader that opens at the column `opening`, six bytes an entry, into the first
- * bytes of `out`. Refusals 5 to 9. */
+/* Lists the entries that two recorded rows show to a reader that opens at the column `opening`, into the first bytes of `out`:
+ * BISS_ENTRY_BYTES an entry. Refusals 5 to 9. */
 uint64_t biss_read(const uint8_t *cdm, size_t cdm_length, const uint8_t *cds, size_t cds_length, size_t opening, uint8_t *out,
                    size_t out_length);
 
@@ -69,8 +83,8 @@ uint64_t biss_rows_to_text(const uint8_t *cdm, size_t cdm_length, const uint8_t 
 uint64_t biss_text_to_rows(const uint8_t *text, size_t text_length, uint8_t *cdm, size_t cdm_length, uint8_t *cds,
                            size_t cds_length);
 
-/* Prints a list, as biss_read makes it, as text into the first bytes of `out`: a header of 30 bytes, and then an entry a line, at most
- * 27 bytes, the kind by its name. Refusals 12, 9. */
+/* Prints a list, as biss_read makes it, as text into the first bytes of `out`: a header of BISS_LIST_HEADER_BYTES, and then an entry a
+ * line, at most BISS_LIST_LINE_BYTES each, the kind by its name. Refusals 12, 9. */
 uint64_t biss_list_to_text(const uint8_t *list, size_t list_length, uint8_t *out, size_t out_length);
 
 /* The channel place of the process data of the slave `id` in a chain of so many slaves: 1 is the slave next to the master, and so the one

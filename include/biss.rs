@@ -43,7 +43,7 @@ fn words(number: u8) -> &'static str {
         8 => "opening column greater than the length",
         9 => "the result needs more room than was lent",
         10 => "id over 7, address over 127, CMD over 3, count 0 or over 64, or address + count over 128",
-        12 => "list length no multiple of 6, or a kind outside 1 to 16",
+        12 => "list length no multiple of 8, or a kind outside 1 to 16",
         13 => "a wrong byte in the header line",
         14 => "digit not 0 or 1",
         15 => "tab missing",
@@ -51,6 +51,40 @@ fn words(number: u8) -> &'static str {
         17 => "the text ends inside a line",
         _ => "a number that the table does not have",
     }
+}
+
+/// The bytes of an entry.
+pub const ENTRY_BYTES: usize = 8;
+
+/// The bytes of the header of a list's text, and the most that the line of an entry has.
+pub const LIST_HEADER_BYTES: usize = 36;
+pub const LIST_LINE_BYTES: usize = 33;
+
+/// The master zeros that stand before every start bit: a reader that opens at an entry's `start - REST` lists that entry again.
+pub const REST: usize = 14;
+
+/// An entry of a list; `start` is the column of the start bit of its frame.
+#[derive(Clone, Copy, PartialEq, Eq, Debug)]
+pub struct Entry {
+    pub kind: u8,
+    pub column: usize,
+    pub start: usize,
+    pub id: u8,
+    pub address: u8,
+    pub value: u8,
+}
+
+/// The entries of a list, as `read` makes it.
+pub fn entries(list: &[u8]) -> impl Iterator<Item = Entry> + '_ {
+    let column = |high: u8, low: u8| usize::from(u16::from_be_bytes([high, low]));
+    list.chunks_exact(ENTRY_BYTES).map(move |entry| Entry {
+        kind: entry[0],
+        column: column(entry[1], entry[2]),
+        start: column(entry[3], entry[4]),
+        id: entry[5],
+        address: entry[6],
+        value: entry[7],
+    })
 }
 
 /// How many columns, bytes or entries were made, or why none.

@@ -39,6 +39,7 @@ harness programs [write]  the files of the indexing program's crates held to the
 harness index PROGRAM N   the linked program on the named inputs and on the texts
                           of N seeds
 harness selftest          the bench card on the model, and the wrapper's words
+                          and numbers
 harness --help            this text
 
 Exit status 0 if model and library never differ, the model keeps its own

@@ -1,14 +1,19 @@
-//! Codes of the library, read and worded by its wrapper; and its words against the
-//! table in `include/biss.h`.
+//! Codes and lists of the library, read and worded by its wrapper; and the wrapper's
+//! words and numbers against those of `include/biss.h` and of the model.
 
 use super::Card;
-use crate::library::biss::{answer, Answer, Refusal};
+use crate::library::biss::{self, answer, Answer, Refusal};
+use model::entry::{ADDRESS, COLUMN, ENTRY_BYTES, ID, KIND, START, VALUE};
+use model::list::printed_at_most;
+use model::rows::ZEROS_TO_REST;
 
 const BISS_H: &str = include_str!("../../../include/biss.h");
 
 pub fn tried(card: &mut Card) {
     codes(card);
     words(card);
+    layout(card);
+    entries(card);
 }
 
 const REFUSED: u64 = 1 << 63;
@@ -48,4 +53,41 @@ fn words(card: &mut Card) {
         let row = format!(" {number:>2}  {}", Refusal::Number(number));
         card.same(&row, BISS_H.contains(&row), number != 11);
     }
+}
+
+/// The numbers that biss.h names, and the wrapper's, are the model's.
+fn layout(card: &mut Card) {
+    let line = printed_at_most(1) - printed_at_most(0);
+    card.same("bytes of an entry", biss::ENTRY_BYTES, ENTRY_BYTES);
+    card.same("bytes of a list's header", biss::LIST_HEADER_BYTES, printed_at_most(0));
+    card.same("bytes of the longest line", biss::LIST_LINE_BYTES, line);
+    card.same("zeros before S", biss::REST, ZEROS_TO_REST);
+    let named = [
+        ("KIND", KIND),
+        ("COLUMN", COLUMN.start),
+        ("START", START.start),
+        ("ID", ID),
+        ("ADDRESS", ADDRESS),
+        ("VALUE", VALUE),
+        ("ENTRY_BYTES", ENTRY_BYTES),
+        ("REST", ZEROS_TO_REST),
+        ("LIST_HEADER_BYTES", printed_at_most(0)),
+        ("LIST_LINE_BYTES", line),
+    ];
+    let words: Vec<&str> = BISS_H.split([' ', ',', '\n']).filter(|word| !word.is_empty()).collect();
+    for (name, number) in named {
+        let [name, number] = [format!("BISS_{name}"), number.to_string()];
+        let is_named = words.windows(3).any(|three| three == [&name, "=", &number]);
+        card.same(&format!("{name} = {number}"), is_named, true);
+    }
+}
+
+/// The wrapper takes a list apart into its entries.
+fn entries(card: &mut Card) {
+    let list = [[11, 2, 16, 1, 242, 3, 68, 90], [15, 15, 255, 15, 14, 0, 0, 0]].concat();
+    let wanted = vec![
+        biss::Entry { kind: 11, column: 528, start: 498, id: 3, address: 68, value: 90 },
+        biss::Entry { kind: 15, column: 4095, start: 3854, id: 0, address: 0, value: 0 },
+    ];
+    card.same("entries of a list", biss::entries(&list).collect(), wanted);
 }
