@@ -12,7 +12,7 @@ pub fn must(holds: bool, what: &str) -> Result<(), String> {
     if holds {
         Ok(())
     } else {
-        Err(format!("the model by itself: {what}"))
+        Err(what.to_string())
     }
 }
 

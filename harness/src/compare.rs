@@ -50,10 +50,16 @@ fn difference<J: Job>(model: &Left<J>, library: &Left<J>) -> Option<String> {
 pub fn compare<J: Job>(case: &J, seed: u64) -> Result<Left<J>, String> {
     let model = call(case, &Model);
     let library = call(case, &Library);
-    match difference(&model, &library) {
-        Some(difference) => Err(difference),
-        None => check(case, &model, seed).map(|()| model),
+    if let Some(difference) = difference(&model, &library) {
+        return Err(difference);
     }
+    let by_itself = |who: &'static str| move |wrong| format!("the {who} by itself: {wrong}");
+    check(case, &model, seed).map_err(by_itself("model"))?;
+    if let Made(made) = model.outcome {
+        case.check_further(&model.case, made, &Model).map_err(by_itself("model"))?;
+        case.check_further(&model.case, made, &Library).map_err(by_itself("library"))?;
+    }
+    Ok(model)
 }
 
 /// A case and what both made of it, for a person to read.

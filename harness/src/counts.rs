@@ -1,5 +1,5 @@
-//! How often each entry kind, each refusal, each fault of a text, each phase and
-//! each way to make a case came up.
+//! How often each entry kind, each opening again at a frame, each refusal, each
+//! fault of a text, each phase and each way to make a case came up.
 
 mod table;
 
@@ -57,6 +57,11 @@ pub enum Count {
     Lock(Answers, u8),
     /// Kinds of lists that were printed.
     Printed(u8),
+    /// Entries of a kind whose frame was opened again; of them those of a list that
+    /// was opened late, and those with other frames before theirs in the list.
+    Reopened(u8),
+    ReopenedLate,
+    ReopenedPastOthers,
     /// Rows in which a slave, or the reader, met a phase.
     SlaveAt(Phase),
     ReaderAt(Phase),
@@ -88,6 +93,9 @@ impl fmt::Display for Count {
             Count::OddAt64th(answers) => write!(to, "{answers:?} odd at 64th"),
             Count::Lock(answers, value) => write!(to, "{answers:?} lock {value}"),
             Count::Printed(kind) => write!(to, "printed {}", kind_name(*kind)),
+            Count::Reopened(kind) => write!(to, "reopened {}", kind_name(*kind)),
+            Count::ReopenedLate => write!(to, "reopened of a late list"),
+            Count::ReopenedPastOthers => write!(to, "reopened past others"),
             Count::SlaveAt(phase) => write!(to, "slave at {phase:?}"),
             Count::ReaderAt(phase) => write!(to, "reader at {phase:?}"),
             Count::Fault(part, number, byte) => write!(to, "{part:?} {number} at byte {byte}"),
@@ -172,6 +180,16 @@ impl Counts {
         }
     }
 
+    pub fn add_reopened(&mut self, kind: u8, is_late: bool, is_past_others: bool) {
+        self.add_one(Count::Reopened(kind));
+        if is_late {
+            self.add_one(Count::ReopenedLate);
+        }
+        if is_past_others {
+            self.add_one(Count::ReopenedPastOthers);
+        }
+    }
+
     pub fn add_phases(&mut self, at: fn(Phase) -> Count, met: &Met) {
         PHASES
             .into_iter()
@@ -199,6 +217,8 @@ impl Counts {
 fn expected() -> Vec<Count> {
     let mut all: Vec<Count> = ANSWERS.into_iter().flat_map(expected_of_lists).collect();
     all.extend(kinds().map(Count::Printed));
+    all.extend(kinds().map(Count::Reopened));
+    all.extend([Count::ReopenedLate, Count::ReopenedPastOthers]);
     all.extend(PHASES.map(Count::SlaveAt));
     all.extend(PHASES.map(Count::ReaderAt));
     all.extend(PARTS.into_iter().flat_map(expected_of_texts));

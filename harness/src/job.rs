@@ -38,6 +38,12 @@ pub trait Job: Fields + Clone + 'static {
         Ok(())
     }
 
+    /// What must hold of further calls, by whoever answers them, where one left
+    /// something made.
+    fn check_further(&self, _left: &Self, _made: usize, _calls: &impl Calls) -> Result<(), String> {
+        Ok(())
+    }
+
     /// Counts what a call met that made something.
     fn count(&self, _left: &Self, _made: usize, _counts: &mut Counts) {}
 

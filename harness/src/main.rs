@@ -43,8 +43,9 @@ harness selftest          the bench card on the model, and the wrapper's words
 harness --help            this text
 
 Exit status 0 if model and library never differ, the model keeps its own
-promises and every count of entries, refusals, faults, phases and ways to make a
-case is at least 100 (the last not asked of soak under 600, seed and watch).";
+promises and every count of entries, frames opened again, refusals, faults,
+phases and ways to make a case is at least 100 (the last not asked of soak under
+600, seed and watch).";
 
 fn selftest() -> bool {
     let (tried, failed) = selftest::selftest();

@@ -18,25 +18,28 @@ impl Counts {
     }
 
     fn table_of_entries(&self) -> String {
-        let row = |name: &str, count: &dyn Fn(Answers) -> Count, printed: &str| {
+        let row = |name: &str, count: &dyn Fn(Answers) -> Count, more: &str| {
             let [honest, damaged, random] = ANSWERS.map(|answers| self.of(count(answers)));
-            format!("{name:<16}{honest:>10}{damaged:>10}{random:>10}{printed:>10}\n")
+            format!("{name:<16}{honest:>10}{damaged:>10}{random:>10}{more}\n")
         };
         let mut text = format!(
-            "{:<16}{:>10}{:>10}{:>10}{:>10}\n",
-            "entries", "honest", "damaged", "random", "printed"
+            "{:<16}{:>10}{:>10}{:>10}{:>10}{:>10}\n",
+            "entries", "honest", "damaged", "random", "printed", "reopened"
         );
         for kind in kinds() {
             let name = format!("{kind:>2} {}", kind_name(kind));
-            let printed = self.of(Count::Printed(kind)).to_string();
-            text += &row(&name, &|answers| Count::Entry(answers, kind), &printed);
+            let more = [Count::Printed(kind), Count::Reopened(kind)];
+            let more = more.map(|count| format!("{:>10}", self.of(count))).concat();
+            text += &row(&name, &|answers| Count::Entry(answers, kind), &more);
         }
         text += &row("   odd at 127", &Count::OddAt127, "");
         text += &row("   odd at 64th", &Count::OddAt64th, "");
         for value in LOCKS {
             text += &row(&format!("   lock {value}"), &|answers| Count::Lock(answers, value), "");
         }
-        text
+        let late = self.of(Count::ReopenedLate);
+        let past_others = self.of(Count::ReopenedPastOthers);
+        text + &format!("   reopened: {late} of late lists, {past_others} past other frames\n")
     }
 
     fn table_of_phases(&self) -> String {

@@ -2,7 +2,7 @@
 
 use super::Calls;
 use crate::bench::{rows, Timed};
-use crate::checks::{late_opening, starts};
+use crate::checks::{late_opening, must, starts};
 use crate::conditions::{bad_byte, too_long};
 use crate::counts::{Count, Counts};
 use crate::generate::provoked::{TWO_16, TWO_32};
@@ -10,11 +10,15 @@ use crate::generate::recordings::{spoiled_recording, Answers};
 use crate::generate::{room, Marks, Provoked, Random};
 use crate::job::{fields, Job, Refusals};
 use crate::lent::Lent;
-use model::entry::ENTRY_BYTES;
+use model::entry::{column_in, COLUMN, ENTRY_BYTES, KIND, START};
 use model::list::{list, phases, printed_at_most};
+use model::rows::ZEROS_TO_REST;
 use model::Outcome::{self, Made};
 
-fields!(Read { opening: usize; cdm: Row, cds: Row, out: Room; answers: Answers });
+/// The frame of one entry in so many is opened again, from the entry `first` on.
+const ONE_IN: usize = 8;
+
+fields!(Read { opening: usize; cdm: Row, cds: Row, out: Room; answers: Answers, first: usize });
 
 impl Job for Read {
     const REFUSALS: Refusals<Read> = &[
@@ -43,6 +47,7 @@ impl Job for Read {
             cds: Lent::copy(&rows.cds),
             out: room(random, marks, ENTRY_BYTES * entries, provoked.has(9)),
             answers: rows.answers,
+            first: random.below(ONE_IN),
         }
     }
 
@@ -56,8 +61,18 @@ impl Job for Read {
         late_opening(&self.cdm, &self.cds, random)
     }
 
+    fn check_further(&self, left: &Read, made: usize, calls: &impl Calls) -> Result<(), String> {
+        let list = left.list(made);
+        self.reopened(list).try_for_each(|entry| self.open_at_frame(list, entry, calls))
+    }
+
     fn count(&self, left: &Read, made: usize, counts: &mut Counts) {
-        counts.add_list(self.answers, left.list(made));
+        let list = left.list(made);
+        counts.add_list(self.answers, list);
+        for entry in self.reopened(list) {
+            let is_past_others = list[START] != entry[START];
+            counts.add_reopened(entry[KIND], self.opening > 0, is_past_others);
+        }
         let met = phases(&self.cdm, &self.cds, self.opening);
         counts.add_phases(Count::ReaderAt, &met);
     }
@@ -77,9 +92,11 @@ impl Job for Read {
         }
     }
 
-    /// Let in sooner.
+    /// Let in sooner, or the frame of an earlier entry opened again.
     fn smaller(&self) -> Vec<Read> {
-        (0..self.opening.min(32)).map(|opening| Read { opening, ..self.clone() }).collect()
+        let sooner = (0..self.opening.min(32)).map(|opening| Read { opening, ..self.clone() });
+        let earlier = (0..self.first).map(|first| Read { first, ..self.clone() });
+        sooner.chain(earlier).collect()
     }
 
     fn timed() -> Vec<Timed<Read>> {
@@ -109,6 +126,7 @@ impl Read {
             cds: Lent::copy(&rows::answered(cdm)),
             out: Lent::zeros(ENTRY_BYTES * cdm.len()),
             answers: Answers::Honest,
+            first: 0,
         }
     }
 
@@ -116,6 +134,35 @@ impl Read {
     fn list(&self, made: usize) -> &[u8] {
         &self.out[..ENTRY_BYTES * made]
     }
+
+    /// The entries of its list whose frames are opened again.
+    fn reopened<'a>(&self, list: &'a [u8]) -> impl Iterator<Item = &'a [u8]> {
+        list.chunks(ENTRY_BYTES).skip(self.first).step_by(ONE_IN)
+    }
+
+    /// A reader let in fourteen columns before an entry's start lists that entry too,
+    /// and just what the list has from its frame on.
+    fn open_at_frame(&self, list: &[u8], entry: &[u8], calls: &impl Calls) -> Result<(), String> {
+        let start = column_in(&entry[START]);
+        let wanted = from_column(list, start);
+        let mut again = Read { opening: start - ZEROS_TO_REST, ..self.clone() };
+        let outcome = again.call(calls);
+        let told = |what: &str| format!("opened for {entry:?} at {}: {what}", again.opening);
+        let made = wanted.len() / ENTRY_BYTES;
+        must(outcome == Made(made), &told(&format!("{made} entries, not {outcome:?}")))?;
+        let is_listed = again.list(made).chunks(ENTRY_BYTES).any(|other| other == entry);
+        must(is_listed, &told("the entry is listed"))?;
+        must(again.list(made) == wanted, &told("the list from its frame on"))?;
+        let (behind, before) = (&again.out[wanted.len()..], &self.out[wanted.len()..]);
+        let is_kept = behind == before && again.out.touched_guard().is_none();
+        must(is_kept, &told("bytes past the list stay"))
+    }
+}
+
+/// The entries of a list that lie in a column or behind it.
+fn from_column(list: &[u8], column: usize) -> Vec<u8> {
+    let is_behind = |entry: &&[u8]| column_in(&entry[COLUMN]) >= column;
+    list.chunks(ENTRY_BYTES).filter(is_behind).flatten().copied().collect()
 }
 
 fn printed(list: &[u8]) -> String {
