@@ -42,7 +42,7 @@ fn held() -> Vec<Input> {
 /// The inputs that the linked program alone is tried on.
 fn named() -> Vec<Input> {
     let two_frames = [bench_row(14, 14), bench_row(14, 1)].concat();
-    vec![
+    let mut inputs = vec![
         input("the card's run, its last column off: no end", None, text(&bench_row(14, 0))),
         input("thirteen zeros before S: nobody is at rest", None, text(&bench_row(13, 14))),
         input("an empty input", None, Vec::new()),
@@ -51,6 +51,24 @@ fn named() -> Vec<Input> {
         input("4,097 columns", None, lines(LIMIT + 1)),
         input("opened in the middle of a frame", Some(30), text(&two_frames)),
         input("an opening column past the end", Some(48), text(&bench_row(14, 1))),
+    ];
+    inputs.extend(at_frame(&two_frames));
+    inputs
+}
+
+/// Two frames, the second one's S in column 74: opened fourteen columns before, its
+/// read is listed again; one column later nothing is.
+fn at_frame(two_frames: &[u8]) -> [Input; 3] {
+    let opened = |name, opening, is_listed| {
+        let input = input(name, opening, text(two_frames));
+        let report = String::from_utf8(input.report()).expect("a list is printed");
+        assert_eq!(report.contains("\nread\t104\t74\t0\t68\t90\n"), is_listed, "{name}");
+        input
+    };
+    [
+        opened("two frames", None, true),
+        opened("opened at the start of an entry less fourteen", Some(74 - 14), true),
+        opened("opened one column later", Some(74 - 13), false),
     ]
 }
 
