@@ -4,7 +4,7 @@
 use mathlib.Core.Path.{_≡_, refl, sym, ap, _∙_}
 use mathlib.Core.Bool.{true, false}
 use mathlib.Core.List.{List, map}
-use Prim.Native.Nat.{ℕ, _+_, _*_, _≤_, _<_}
+use Prim.Native.Nat.{ℕ, _+_, _-_, _*_, _≤_, _<_}
 use native.Mathlib.Omega.{arith}
 use borrow.Author.Tests.{le-ltb}
 use lib.ListN.{length, take, getD}
@@ -13,7 +13,7 @@ use Rattle.protocol.specs.Bits.{num, rowOf}
 use Rattle.protocol.specs.Layout.{current, entryBytes, listBytes, entriesIn, isList}
 use Rattle.protocol.specs.Account.{account}
 use Rattle.protocol.specs.Replay.{replay, Shows}
-use Rattle.protocol.specs.Late.{FirstFourteen, NoFourteen, fromColumn}
+use Rattle.protocol.specs.Late.{FirstFourteen, NoFourteen, fromColumn, Started}
 use Rattle.protocol.specs.Text.{rowsText, listText, has, badLine, cdmOf, cdsOf}
 use Rattle.protocol.specs.Fault.{placeOf, formAt, faultLine}
 use Rattle.protocol.proofs.Codec.{bytes-list}
@@ -31,8 +31,9 @@ use Rattle.print.proofs.Ends.{was-printed}
 use Rattle.list_text.specs.Lists.{ListPrinted}
 use Rattle.list_text.proofs.Lists.{list-none}
 use Rattle.rows_text.specs.RowsText.{RowsPrinted, RowsTaken}
-use Rattle.demands.specs.Lent.{areBytes, listIn, kindAt, isBreach, DifferUnread}
+use Rattle.demands.specs.Lent.{areBytes, listIn, kindAt, placeAt, Reopened, isBreach, DifferUnread}
 use Rattle.demands.proofs.Chains.{all-alike}
+use Rattle.demands.proofs.Lists as list
 use Rattle.demands.proofs.Lists.{list-count, list-bytes, list-entries, list-empty, list-late, list-never, no-breach-at}
 use Rattle.demands.proofs.Answers.{row-bytes, rows-read, row-account, row-shows, row-replay}
 use Rattle.demands.proofs.Texts.{rows-taken, was-told, printed-back, printed-taken}
@@ -80,6 +81,17 @@ module _ {cdm cds lent after : List ℕ} {k n : ℕ} (listed : Listed cdm cds k 
   -- .. "or nothing if there is none": no entry, and no byte of the lent buffer changed.
   pub late-nothing : NoFourteen (rowOf cdm) k → (n ≡ 0) × (after ≡ lent)
   late-nothing never = list-empty listed (list-never listed never)
+
+  -- Request 02: the start that an entry shows is "the column of its frame's S", by the master row alone, behind fourteen zeros at or after
+  -- k ..
+  pub start-is-s : {i : ℕ} → i < n → Started (rowOf cdm) k (placeAt (listIn n after) i)
+  start-is-s there = list.start-is-s listed there
+
+  -- .. and let in before those zeros, with as much room, read lists that entry too, byte for byte.
+  pub open-at-frame : {i : ℕ} {lent′ after′ : List ℕ} {outcome : Outcome} → i < n
+      → Listed cdm cds (placeAt (listIn n after) i .start - restZeros) lent′ outcome after′ → length lent ≤ length lent′
+      → Reopened n i (listIn n after) outcome after′
+  open-at-frame there again room = list.reopened listed there again room
 
   -- List to text never refuses it by 12, and with room for its text prints it.
   pub list-prints : {room out : List ℕ} {outcome : Outcome} → ListPrinted (listIn n after) room outcome out

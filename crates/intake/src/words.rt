@@ -8,13 +8,16 @@ pub fn help() {
         && say(b"Standard input: a line `cdm` TAB `cds`, then a line a column: 0 or 1, TAB,\n")
         && say(b"0 or 1; every line ends in LF. At most 4,096 columns, counted from 0.\n")
         && say(b"Standard output: a line of names, then a line an entry: its kind, its column,\n")
-        && say(b"id, address and value, or `-` for what the kind does not name.\n")
+        && say(b"the column of its frame's start bit, id, address and value, or `-` for what\n")
+        && say(b"the kind does not name.\n")
         && say(b"On a refusal only: `refused` TAB its number: 5 more than 4,096 columns,\n")
         && say(b"8 opening column past the rows. Where the text is wrong: 13 a byte of its\n")
         && say(b"first line, 14 a digit not 0 or 1, 15 TAB missing, 16 LF missing, 17 its end\n")
         && say(b"inside a line; then TAB the line, from 1, TAB the byte in that line, from 0.\n")
         && say(b"From an opening column on, entries are listed after the first fourteen\n")
-        && say(b"zeros of the master: nothing before them can be told for certain.\n")
+        && say(b"zeros of the master: nothing before them can be told for certain. These stand\n")
+        && say(b"just before a start bit: opened at an entry's start less 14, the list begins\n")
+        && say(b"with that entry's frame.\n")
         && say(b"bin/index ends with status 0 after a list or this text, with 1 after a\n")
         && say(b"refusal, with 2 where there is no answer: standard error then says why.\n");
     if !written {

@@ -11,8 +11,18 @@ ghost use Rattle.job.specs.Rows.{rowRules, wrongRows, wrongRow};
 // Columns: "A row has 0 to 4,096 columns."
 pub const COLUMN_LIMIT: usize = 4096;
 
-// Entries: "Six bytes", the width of the current layout.
-pub const ENTRY_BYTES: usize = 6;
+// An entry's bytes, as the current layout has them (protocol's specs/Layout): its kind, and then where each other field begins.
+pub const COLUMN: usize = 1;
+
+pub const START: usize = COLUMN + 2;
+
+pub const ID: usize = START + 2;
+
+pub const ADDRESS: usize = ID + 1;
+
+pub const VALUE: usize = ADDRESS + 1;
+
+pub const ENTRY_BYTES: usize = VALUE + 1;
 
 pub enum Outcome {
     // So many columns, bytes or entries were made.

@@ -20,7 +20,7 @@ use lists::Fields;
 pub fn list_to_text(list: &[u8], out: &mut [u8]) -> Outcome
     ensures { λ r. ⌜ ListPrinted (now (list .entry)) (now (out .entry)) r (now (out .exit)) ⌝ }
 {
-    let header: &[u8] = b"event\tcolumn\tid\taddress\tvalue\n";
+    let header: &[u8] = b"event\tcolumn\tstart\tid\taddress\tvalue\n";
     if lists::is_list(list) {
         if too_long(list, header.len(), out.len()) {
             return Outcome::Refused(9, Detail::Alone);
@@ -75,12 +75,8 @@ fn put_line(out: &mut [u8], at: usize, e: Fields) -> usize
 {
     let name = names::put_name(out, at, e.kind);
     let column = put_field(out, name, true, e.column);
-    let id = put_field(
-        out,
-        column,
-        names::has_field(e.kind, names::ID),
-        e.id as u16,
-    );
+    let start = put_field(out, column, true, e.start);
+    let id = put_field(out, start, names::has_field(e.kind, names::ID), e.id as u16);
     let address = put_field(
         out,
         id,
@@ -102,10 +98,11 @@ fn line_length(e: Fields) -> usize
     requires { ⌜ isKind (e .kind) ≡ true ⌝ }
     ensures { λ r. ⌜ r ≡ length (entryLine (entryOf e)) ⌝ }
 {
+    let columns = field_length(true, e.column) + field_length(true, e.start);
     let id = field_length(names::has_field(e.kind, names::ID), e.id as u16);
     let address = field_length(names::has_field(e.kind, names::ADDRESS), e.address as u16);
     let value = field_length(names::has_field(e.kind, names::VALUE), e.value as u16);
-    names::name_length(e.kind) + field_length(true, e.column) + id + address + value + 1
+    names::name_length(e.kind) + columns + id + address + value + 1
 }
 
 // A TAB, and the field in decimal or `-`.

@@ -13,6 +13,7 @@ fieldsAt list i =
     record {
       kind = fieldAt current list i Field.kind;
       column = fieldAt current list i Field.column;
+      start = fieldAt current list i Field.start;
       id = fieldAt current list i Field.id;
       address = fieldAt current list i Field.address;
       value = fieldAt current list i Field.value;
@@ -22,6 +23,6 @@ fieldsAt list i =
 abbrev pub entryOf : Fields → Entry
 entryOf f =
     record {
-      place = record { column = f .column };
+      place = record { column = f .column; start = f .start };
       event = record { kind = kindOf (f .kind); id = f .id; address = f .address; value = f .value };
     }

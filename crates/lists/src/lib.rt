@@ -4,12 +4,18 @@ ghost use Prim.Native.Nat.{_+_, _*_, _≤_};
 ghost use lib.ListN.{length};
 ghost use Rattle.protocol.specs.Layout.{current, entryBytes, isList};
 ghost use Rattle.lists.specs.Fields.{fieldsAt};
+use job::ADDRESS;
+use job::COLUMN;
 use job::ENTRY_BYTES;
+use job::ID;
+use job::START;
+use job::VALUE;
 
 // What stands in the fields of an entry.
 pub struct Fields {
     pub kind: u8,
     pub column: u16,
+    pub start: u16,
     pub id: u8,
     pub address: u8,
     pub value: u8,
@@ -38,10 +44,11 @@ pub fn entry_at(list: &[u8], i: usize) -> Fields
 {
     Fields {
         kind: list[i],
-        column: two_bytes(list[i + 1], list[i + 2]),
-        id: list[i + 3],
-        address: list[i + 4],
-        value: list[i + 5],
+        column: two_bytes(list[i + COLUMN], list[i + COLUMN + 1]),
+        start: two_bytes(list[i + START], list[i + START + 1]),
+        id: list[i + ID],
+        address: list[i + ADDRESS],
+        value: list[i + VALUE],
     }
 }
 

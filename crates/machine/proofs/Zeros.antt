@@ -7,7 +7,7 @@ use Prim.Native.Nat.{ℕ, _+_, _≤_, _<_}
 use native.Mathlib.Omega.{arith}
 use borrow.Author.Tests.{lt-ltb, le-ltb}
 use Rattle.protocol.specs.Limits.{restZeros}
-use Rattle.protocol.specs.Rest.{Timed, power, rest, frame, timer, judge}
+use Rattle.protocol.specs.Rest.{Timed, power, rest, frame, framed, timer, judge}
 use Rattle.machine.specs.Zeros.{zerosAfter, timed, judgedAt, endedAt}
 
 -- By protocol's timer ..
@@ -37,3 +37,9 @@ module _ {P : Type 0} (begun : P) (z : ℕ) {z′ : ℕ} where
   judge-out rest true e h = absurd (omega arith)
   judge-out rest false e h = refl
   judge-out (frame _ p) m e h = rw (timer-out z m e h)
+
+-- However many zeros were seen, a frame is a frame.
+pub framed-timed : {P : Type 0} (z : ℕ) (s : Timed P) → framed (timed z s) ≡ framed s
+framed-timed z (power _) = refl
+framed-timed z rest = refl
+framed-timed z (frame _ p) = refl

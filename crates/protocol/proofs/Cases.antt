@@ -127,7 +127,24 @@ pub samples-hold : map listed samples ≡ map (λ s. s .shows) samples
 unfolding samples sample entry listed flips flip reading writing locked ended holding one columnsOf rowFor frameOf readBytes writeBytes word check remainder divide divideBit bit bits push fits byteOf header allows holds stored judge timer Slave.lock Slave.called Slave.more Slave.speak Slave.step Chain.pass Chain.answers Chain.switchedOn Chain.answersFrom Reader.seen Reader.locked Reader.headed Reader.asked Reader.look Reader.step Reader.columns Reader.entries Reader.listFrom
 samples-hold = refl
 
--- A kind, and what is expected of its entry in column 300 with id 5, address 68 and value 90: its bytes, and its line.
+-- Two reads one after the other: each entry has its own frame's S, and fourteen columns before the second a reader opens at it.
+twice : (k : ℕ) → List Entry
+twice k =
+    let row : List Bool = rowFor (read 0 0x44 1) ++ reading in Reader.listFrom k (Reader.columns row (Chain.answersFrom (one 3) row))
+
+-- A kind, its column, the column of S, id, address and value.
+pub placed : Kind → (column start id address value : ℕ) → Entry
+placed kind column start id address value =
+    record { place = record { column = column; start = start }; event = event kind id address value }
+
+second : List Entry
+second = placed Kind.lock 69 60 0 0 1 ∷ placed Kind.read 90 60 0 68 90 ∷ placed Kind.end 92 60 0 0 0 ∷ []
+
+starts-hold : map twice (0 ∷ 14 ∷ 46 ∷ 47 ∷ []) ≡ (locked ∷ entry Kind.read 44 0 68 90 ∷ ended ++ second) ∷ second ∷ second ∷ [] ∷ []
+unfolding twice placed second entry reading locked ended holding one rowFor frameOf readBytes word check remainder divide divideBit bit bits push fits byteOf header allows holds stored judge timer Slave.lock Slave.called Slave.more Slave.speak Slave.step Chain.pass Chain.answers Chain.switchedOn Chain.answersFrom Reader.seen Reader.locked Reader.headed Reader.asked Reader.look Reader.step Reader.columns Reader.entries Reader.listFrom
+starts-hold = refl
+
+-- A kind, and what is expected of its entry in column 300, S in column 270, with id 5, address 68 and value 90: its bytes, and its line.
 pub record KindLine : Type 0 where
   pub kind : Kind
   pub laid : List ℕ
@@ -138,8 +155,8 @@ kindLine : Kind → (number id address value : ℕ) → (name fields : String) �
 kindLine kind number id address value name fields =
     record {
       kind = kind;
-      laid = number ∷ 1 ∷ 44 ∷ id ∷ address ∷ value ∷ [];
-      line = bytes name ++ bytes "\t300\t" ++ bytes fields;
+      laid = number ∷ 1 ∷ 44 ∷ 1 ∷ 14 ∷ id ∷ address ∷ value ∷ [];
+      line = bytes name ++ bytes "\t300\t270\t" ++ bytes fields;
     }
 
 pub kindLines : List KindLine
@@ -162,20 +179,20 @@ kindLines =
     ∷ kindLine Kind.closed 16 5 68 0 "closed" "5\t68\t-\n"
     ∷ []
 
-pub kinds-hold : map (λ s. bytesOf current (entry (s .kind) 300 5 68 90)) kindLines ≡ map (λ s. s .laid) kindLines
-unfolding kindLines kindLine entry bytesOf fieldBytes inBytes
+pub kinds-hold : map (λ s. bytesOf current (placed (s .kind) 300 270 5 68 90)) kindLines ≡ map (λ s. s .laid) kindLines
+unfolding kindLines kindLine placed bytesOf fieldBytes inBytes
 kinds-hold = refl
 
 pub kinds-print : map (λ s. entryLines (entriesIn current (s .laid))) kindLines ≡ map (λ s. s .line) kindLines
 unfolding kindLines kindLine numbered pieces cut numberAt entriesIn entriesOf digitsIn decimal field cells entryLine entryLines
 kinds-print = refl
 
--- Refusal 12: lengths 0 to 12, of kind 1 throughout; kinds 0, 1, 16 and 17.
-lengths-hold : tabulate (λ n. isList current (replicate n 1)) 0 13
-    ≡ true ∷ replicate 5 false ++ true ∷ replicate 5 false ++ true ∷ []
+-- Refusal 12: lengths 0 to 16, of kind 1 throughout; kinds 0, 1, 16 and 17.
+lengths-hold : tabulate (λ n. isList current (replicate n 1)) 0 17
+    ≡ true ∷ replicate 7 false ++ true ∷ replicate 7 false ++ true ∷ []
 unfolding isList isWhole allEntries pieces cut numberAt numbered
 lengths-hold = refl
 
-numbers-hold : map (λ k. isList current (k ∷ replicate 5 0)) (0 ∷ 1 ∷ 16 ∷ 17 ∷ []) ≡ false ∷ true ∷ true ∷ false ∷ []
+numbers-hold : map (λ k. isList current (k ∷ replicate 7 0)) (0 ∷ 1 ∷ 16 ∷ 17 ∷ []) ≡ false ∷ true ∷ true ∷ false ∷ []
 unfolding isList isWhole allEntries pieces cut numberAt numbered
 numbers-hold = refl

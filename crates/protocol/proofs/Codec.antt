@@ -13,7 +13,7 @@ use lib.ListN.{length, take, drop, getD, replicate, length-append, length-drop, 
 use lib.Seq.{drop-drop, drop-append-seam}
 use Rattle.protocol.specs.Entries.{Kind, lock, lockodd, badhead, command, pair, absent, refused, odd, mute, read, written, readbad, writebad, echo, end, closed, number, kinds, numbered, Entry}
 use Rattle.protocol.specs.Pieces.{inBytes, numberAt, isWhole, joined}
-use Rattle.protocol.specs.Layout.{Field, kind, column, id, address, value, fields, order, Layout, narrow, width, widths, valueOf, entryBy, entryBytes, offset, fieldBytes, bytesOf, listBytes, fieldAt, entryAt, andMore, entriesOf, entriesIn, isEntry, allEntries, isList}
+use Rattle.protocol.specs.Layout.{Field, kind, column, start, id, address, value, fields, order, Layout, narrow, width, widths, valueOf, entryBy, entryBytes, offset, fieldBytes, bytesOf, listBytes, fieldAt, entryAt, andMore, entriesOf, entriesIn, isEntry, allEntries, isList}
 use Rattle.protocol.proofs.Pieces.{bytes-length, number-behind, number-back, number-part, pieces-more, pieces-none, whole-more, whole-few}
 
 -- The table has each number once.
@@ -40,6 +40,7 @@ numbered-own closed = refl
 own : (f : Field) → getD fields (order f) kind ≡ f
 own kind = refl
 own column = refl
+own start = refl
 own id = refl
 own address = refl
 own value = refl
@@ -47,6 +48,7 @@ own value = refl
 low : (f : Field) → ltb (order f) (length fields) ≡ true
 low kind = refl
 low column = refl
+low start = refl
 low id = refl
 low address = refl
 low value = refl

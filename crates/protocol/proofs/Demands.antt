@@ -3,9 +3,10 @@
 use mathlib.Core.Path.{_≡_, sym, _∙_}
 use mathlib.Core.Bool.{Bool, true, false}
 use mathlib.Core.List.{List, [], _∷_, _++_}
+use mathlib.Core.Option.{some}
 use Prim.Native.Nat.{ℕ, suc, _+_, _^_, _<_}
 use native.Mathlib.Omega.{arith}
-use lib.ListN.{length, take, drop, replicate}
+use lib.ListN.{length, take, drop, replicate, getElem?}
 use Rattle.protocol.specs.Limits.{restZeros}
 use Rattle.protocol.specs.Rest.{Timed, rest, powerOn}
 use Rattle.protocol.specs.Division.{dataBits}
@@ -14,17 +15,20 @@ use Rattle.protocol.specs.Slave.{Slave}
 use Rattle.protocol.specs.Chain.{switchedOn, answersFrom, memoriesAfter}
 use Rattle.protocol.specs.Chain
 use Rattle.protocol.specs.Building.{read, write, command, rowFor}
-use Rattle.protocol.specs.Entries.{Kind, opened}
+use Rattle.protocol.specs.Entries.{Kind, Place, opened, Entry}
 use Rattle.protocol.specs.Reader.{Phase, Column, columns, listFrom, begun}
 use Rattle.protocol.specs.Reader
 use Rattle.protocol.specs.Account.{account}
 use Rattle.protocol.specs.Replay.{replay, Shows}
 use Rattle.protocol.specs.Understood.{listed, Allowed, lockShown, commandShown, bytesShown, standing, closing}
-use Rattle.protocol.specs.Late.{Zeros, FirstFourteen, NoFourteen, fromColumn}
+use Rattle.protocol.specs.Late.{Zeros, FirstFourteen, NoFourteen, fromColumn, Started, OpenedAt}
 use Rattle.protocol.proofs.Rest.{fourteen}
 use Rattle.laws.proofs.Every.{Every}
 use Rattle.protocol.proofs.Memories.{Bytes}
 use Rattle.protocol.proofs.Late.{masters, masters-drop, rests, from-fourteen, from-first, none-later, sleeps}
+use Rattle.protocol.proofs.Start as start
+use Rattle.protocol.proofs.Start.{starts}
+use Rattle.protocol.proofs.Opened.{opened-at}
 use Rattle.protocol.proofs.Rows.{soon-after, all-soon}
 use Rattle.protocol.proofs.Whole.{whole}
 use Rattle.protocol.proofs.Understood.{read-shown, write-shown, command-shown}
@@ -66,12 +70,24 @@ command-understood ks ids cmd bs h k = list-is-account ks _ bs ∙ command-shown
 -- A reader let in at column k lists of any columns what the whole list has after the first fourteen master zeros that lie
 -- wholly at or after k ..
 pub late-opening : (cs : List Column) (k j : ℕ) → FirstFourteen (masters cs) k j → listFrom k cs ≡ fromColumn (j + restZeros) (listFrom 0 cs)
-late-opening cs k j f = from-first cs k j f ∙ sym (from-fourteen cs j (f .fourteen))
+late-opening cs k j f = from-first cs k j f ∙ sym (from-fourteen cs 0 j (omega arith) (f .fourteen))
 
 -- .. and nothing where there are no such zeros.
 pub late-nothing : (cs : List Column) (k : ℕ) → NoFourteen (masters cs) k → listFrom k cs ≡ []
 unfolding listFrom
 late-nothing cs k f = sleeps (drop k cs) 0 (opened k) (omega arith) (none-later (masters cs) _ k k (sym (masters-drop k cs)) (omega arith) f)
+
+-- The start of every entry that a reader let in at k lists is the S of its frame, by the master row alone: behind fourteen zeros at or
+-- after k, and the one such column ..
+pub start-is-s : (cs : List Column) (k : ℕ) → Every (λ e. Started (masters cs) k (e .place)) (listFrom k cs)
+start-is-s cs k = starts cs k
+
+pub one-start : (row : List Bool) {j k : ℕ} (p q : Place) → Started row j p → Started row k q → p .column ≡ q .column → p .start ≡ q .start
+one-start row p q s t same = start.one-start row p q s t same
+
+-- .. and let in before those zeros it lists that entry too: the same list from some entry on, up to that entry.
+pub open-at-frame : (cs : List Column) (k i : ℕ) (e : Entry) → getElem? (listFrom k cs) i ≡ some e → OpenedAt cs k i (e .place .start)
+open-at-frame cs k i e there = opened-at cs k i e there
 
 -- Two runs with the same rights and master row that differ only in registers without the read right give the same answer row.
 pub two-runs : (ks ks′ : List Memory) (row : List Bool) → Alike ks ks′ → answersFrom ks row ≡ answersFrom ks′ row

@@ -67,6 +67,6 @@ unfolding along step
 fair-along ss s p [] = tt
 fair-along ss s p (m ∷ row) =
     every-note (λ e. Sound (e .event)) p (step (memories ss) s m .says)
-    (along (column ss m .slaves) (step (memories ss) s m .state) (onward s m p) row)
+    (along (column ss m .slaves) (step (memories ss) s m .state) (onward (step (memories ss) s m .state) p) row)
     (says-so (IfAny Sound) (λ q. tell (memories ss) q m) tt refl (λ q. fair-tell (memories ss) q m) (judge begun s m))
-    (fair-along (column ss m .slaves) (step (memories ss) s m .state) (onward s m p) row)
+    (fair-along (column ss m .slaves) (step (memories ss) s m .state) (onward (step (memories ss) s m .state) p) row)

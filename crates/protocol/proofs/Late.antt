@@ -1,7 +1,7 @@
 -- Late opening: a reader let in at column k lists what the reader of the whole row lists from the first rest at or after k on, and
 -- nothing where there is none. And that fourteen zeros bring a reader in any state to rest. Assumes nothing.
 use mathlib.Core.Path.{_≡_, refl, sym, ap, _∙_}
-use mathlib.Core.Bool.{Bool, true, false}
+use mathlib.Core.Bool.{Bool, true, false, false≢true}
 use mathlib.Core.List.{List, [], _∷_, _++_}
 use mathlib.Core.Option.{Option, none, some}
 use Prim.Native.Nat.{ℕ, zero, suc, _+_, _-_, _≤_, _<_}
@@ -12,7 +12,7 @@ use lib.Dec.{ltb}
 use lib.ListN.{length, take, drop, replicate, take-append-drop, length-take, length-drop}
 use lib.Seq.{take-add, drop-drop, length-take-le}
 use Rattle.protocol.specs.Limits.{restZeros}
-use Rattle.protocol.specs.Rest.{Timed, power, rest, frame, powerOn, judge, timer}
+use Rattle.protocol.specs.Rest.{Timed, power, rest, frame, framed, powerOn, judge, timer}
 use Rattle.protocol.specs.Entries.{Event, Place, opened, onward, Entry, note}
 use Rattle.protocol.specs.Reader.{Phase, look, Column, col, columns, step, begun, entries, after, placeAfter, listFrom}
 use Rattle.protocol.specs.Late.{Zeros, FourteenAt, FirstFourteen, NoFourteen, fromColumn}
@@ -35,7 +35,7 @@ pub entries-append : (s : Timed Phase) (p : Place) (xs ys : List Column)
 unfolding entries after placeAfter
 entries-append s p [] ys = refl
 entries-append s p (col m x ∷ xs) ys =
-    rw note-append (ap (note p (step s m x .says)) (entries-append (step s m x .state) (onward s m p) xs ys))
+    rw note-append (ap (note p (step s m x .says)) (entries-append (step s m x .state) (onward (step s m x .state) p) xs ys))
 
 pub after-append : (s : Timed Phase) (xs ys : List Column) → after s (xs ++ ys) ≡ after (after s xs) ys
 unfolding after
@@ -46,7 +46,7 @@ after-append s (col m x ∷ xs) ys = after-append _ xs ys
 pub columns-on : (s : Timed Phase) (p : Place) (cs : List Column) → placeAfter s p cs .column ≡ p .column + length cs
 unfolding placeAfter
 columns-on s p [] = rw add-zero
-columns-on s p (col m x ∷ cs) = columns-on (step s m x .state) (onward s m p) cs ∙ omega arith
+columns-on s p (col m x ∷ cs) = columns-on (step s m x .state) (onward (step s m x .state) p) cs ∙ omega arith
 
 -- Rest: "fourteen zeros bring .. the reader to rest".
 pub rests : (n : ℕ) (s : Timed Phase) (cs : List Column) → Soon begun n s → Zeros n (masters cs) → after s (take n cs) ≡ rest
@@ -56,13 +56,19 @@ rests (suc n) s [] h zs = absurd zs
 rests (suc n) s (col true x ∷ cs) h zs = absurd zs
 rests (suc n) s (col false x ∷ cs) h zs = rests n _ cs (soon-step begun _ _ (λ p. look p false x) s n h) zs
 
--- At rest only the column of a place counts.
-at-rest : (cs : List Column) (p q : Place) → p .column ≡ q .column → entries rest p cs ≡ entries rest q cs
-unfolding entries step judge
-at-rest [] p q e = refl
-at-rest (col false x ∷ cs) p q e = at-rest cs (onward {P = Phase} rest false p) (onward {P = Phase} rest false q) (ap suc e)
-at-rest (col true x ∷ cs) p q e =
-    ap (λ (k : ℕ). entries (frame 0 begun) (onward {P = Phase} rest true (opened k)) cs) e
+-- Out of a frame the start is the column itself: nothing of a frame is left.
+abbrev Open : Timed Phase → Place → Type 0
+Open s p = framed s ≡ false → p ≡ opened (p .column)
+
+open-on : (s : Timed Phase) (p : Place) → Open s (onward s p)
+open-on (power z) p e = refl
+open-on rest p e = refl
+open-on (frame z q) p e = absurd (false≢true (sym e))
+
+open-after : (s : Timed Phase) (p : Place) (cs : List Column) → Open s p → Open (after s cs) (placeAfter s p cs)
+unfolding after placeAfter
+open-after s p [] h = h
+open-after s p (col m x ∷ cs) h = open-after (step s m x .state) _ cs (open-on (step s m x .state) p)
 
 -- The entries of columns i to j - 1.
 abbrev Within : (i j : ℕ) → Entry → Type 0
@@ -73,8 +79,8 @@ within : (s : Timed Phase) (p : Place) (cs : List Column) (i j : ℕ) → i ≤ 
 unfolding entries
 within s p [] i j h k = tt
 within s p (col m x ∷ cs) i j h k =
-    every-note (Within i j) p (step s m x .says) (entries (step s m x .state) (onward s m p) cs) (here (step s m x .says))
-    (within (step s m x .state) (onward s m p) cs i j (omega arith) (omega arith))
+    every-note (Within i j) p (step s m x .says) (entries (step s m x .state) (onward (step s m x .state) p) cs) (here (step s m x .says))
+    (within (step s m x .state) (onward (step s m x .state) p) cs i j (omega arith) (omega arith))
   where
     here : (o : Option Event) → IfAny (λ e. Within i j (record { place = p; event = e })) o
     here none = tt
@@ -116,23 +122,50 @@ masters-columns [] xs e = refl
 masters-columns (m ∷ ms) [] e = absurd (omega arith)
 masters-columns (m ∷ ms) (x ∷ xs) e = ap (λ (l : List Bool). m ∷ l) (masters-columns ms xs (omega arith))
 
--- The entries of the whole row from the end of fourteen zeros on: those of a reader at rest there.
-pub from-fourteen : (cs : List Column) (j : ℕ) → FourteenAt (masters cs) j
-    → fromColumn (j + restZeros) (listFrom 0 cs) ≡ entries rest (opened (j + restZeros)) (drop (j + restZeros) cs)
-unfolding listFrom
-from-fourteen cs j zeros =
-    let n : ℕ = j + restZeros in
-    let before : List Entry = entries powerOn (opened 0) (take n cs) in
-    let there : Place = placeAfter powerOn (opened 0) (take n cs) in
-    let fits : n ≤ length cs = omega (arith, rw (length-drop, masters-length) at (zeros-length _ _ zeros)) in
-    let rested : after powerOn (take n cs) ≡ rest
-    = rw (take-add j restZeros cs, after-append) (rests restZeros _ (drop j cs) (fourteen begun _) (rw masters-drop zeros)) in
-    let here : there .column ≡ n = omega (arith, columns-on powerOn (opened 0) (take n cs), length-take-le n cs fits) in
-    let parts : entries powerOn (opened 0) cs ≡ before ++ entries rest (opened n) (drop n cs)
-    = rw (take-append-drop, rested, at-rest (drop n cs) there (opened n) here) at (entries-append powerOn (opened 0) (take n cs) (drop n cs)) in
-    rw parts
-    (from-none 0 n before _ (within powerOn (opened 0) (take n cs) 0 n (omega arith) (omega (arith, length-take n cs)))
-    ∙ from-all n _ _ (within rest (opened n) (drop n cs) n _ (omega arith) (le-refl _)))
+-- Fourteen zeros at or after k, from column j on: what a reader let in at k lists up to their end, and then what a reader at rest lists.
+module _ (cs : List Column) (k j : ℕ) (at-or-after : k ≤ j) (zeros : FourteenAt (masters cs) j) where
+  abbrev upto : List Column
+  upto = take (j + restZeros - k) (drop k cs)
+
+  abbrev pub before : List Entry
+  before = entries powerOn (opened k) upto
+
+  abbrev pub after-rest : List Entry
+  after-rest = entries rest (opened (j + restZeros)) (drop (j + restZeros) cs)
+
+  fits : j + restZeros ≤ length cs
+  fits = omega (arith, rw (length-drop, masters-length) at (zeros-length _ _ zeros))
+
+  length-upto : k + length upto ≡ j + restZeros
+  length-upto = omega (arith, fits, length-take-le (j + restZeros - k) (drop k cs) (omega (arith, fits, length-drop k cs)))
+
+  rested : after powerOn upto ≡ rest
+  rested =
+      let parts : j + restZeros - k ≡ j - k + restZeros = omega arith in
+      let there : k + (j - k) ≡ j = omega arith in
+      rw (parts, take-add (j - k) restZeros (drop k cs), after-append)
+      (rests restZeros _ (drop (j - k) (drop k cs)) (fourteen begun _) (rw (drop-drop, there, masters-drop) zeros))
+
+  there : placeAfter powerOn (opened k) upto ≡ opened (j + restZeros)
+  there =
+      open-after powerOn (opened k) upto (λ e. refl) (ap framed rested)
+      ∙ ap opened (columns-on powerOn (opened k) upto ∙ length-upto)
+
+  pub cut-at-rest : listFrom k cs ≡ before ++ after-rest
+  unfolding listFrom
+  cut-at-rest =
+      let on : k + (j + restZeros - k) ≡ j + restZeros = omega arith in
+      rw (take-append-drop, rested, there, drop-drop, on) at (entries-append powerOn (opened k) upto (drop (j + restZeros - k) (drop k cs)))
+
+  pub all-before : Every (Within k (j + restZeros)) before
+  all-before = within powerOn (opened k) upto k (j + restZeros) (le-refl k) (omega (arith, length-upto))
+
+  -- So the entries from the end of the zeros on are those of the reader at rest.
+  pub from-fourteen : fromColumn (j + restZeros) (listFrom k cs) ≡ after-rest
+  from-fourteen =
+      rw cut-at-rest
+      (from-none k (j + restZeros) before after-rest all-before
+      ∙ from-all (j + restZeros) _ after-rest (within rest (opened (j + restZeros)) (drop (j + restZeros) cs) (j + restZeros) _ (le-refl _) (le-refl _)))
 
 -- Where ms is what a row holds from column n on, fourteen zeros of ms are the row's from there on.
 module _ (row ms : List Bool) (n k : ℕ) (e : drop n row ≡ ms) (h : k ≤ n) where
@@ -178,34 +211,34 @@ fourteenth : (z : ℕ) (ms : List Bool) → z + 1 ≡ restZeros → FourteenAt (
 fourteenth z ms h = rw (one-more z ms, h) (zeros-first restZeros ms)
 
 -- A reader that waits and has just seen z zeros, as if they stood before its columns: silent up to the end of the first fourteen zeros ..
-wakes : (cs : List Column) (z j e : ℕ) (p q : Place) → z < restZeros → z + e ≡ j + restZeros → p .column + e ≡ q .column
-    → FirstFourteen (replicate z false ++ masters cs) 0 j → entries (power z) p cs ≡ entries rest q (drop e cs)
+wakes : (cs : List Column) (z j e : ℕ) (p : Place) (q : ℕ) → z < restZeros → z + e ≡ j + restZeros → p .column + e ≡ q
+    → FirstFourteen (replicate z false ++ masters cs) 0 j → entries (power z) p cs ≡ entries rest (opened q) (drop e cs)
 unfolding entries step judge timer
 wakes cs z j zero p q h k l f = absurd (omega arith)
 wakes [] z j (suc e) p q h k l f = refl
 wakes (col true x ∷ cs) z j (suc e) p q h k l f =
     let b : z < j = behind z j restZeros (masters cs) (omega arith) (f .fourteen) in
-    wakes cs 0 (j - suc z) e (onward {P = Phase} (power z) true p) q (omega arith) (omega arith) (omega arith)
+    wakes cs 0 (j - suc z) e (opened (suc (p .column))) q (omega arith) (omega arith) (omega arith)
     (first-later _ (masters cs) (suc z) 0 (drop-behind z (masters cs)) (omega arith) j b f)
 wakes (col false x ∷ cs) z j (suc e) p q h k l f =
-    let next : Place = onward {P = Phase} (power z) false p in
+    let next : Place = opened (suc (p .column)) in
     tested (ltb (z + 1) restZeros)
     (λ t. rw t (wakes cs (z + 1) j e next q (ltb-true _ _ t) (omega arith) (omega arith) (rw (one-more z (masters cs)) at f)))
     (λ t. let n : z + 1 ≡ restZeros = omega (arith, ltb-false) in
     let first : 0 < j → ⊥ = λ b. f .first 0 (omega arith) b (fourteenth z (masters cs) n) in
     let start : e ≡ 0 = omega arith in
-    rw (t, start) (at-rest cs next q (omega arith)))
+    rw (t, start) (ap (λ (c : ℕ). entries rest (opened c) cs) (omega arith)))
 
 -- .. and for ever where there is none.
 pub sleeps : (cs : List Column) (z : ℕ) (p : Place) → z < restZeros → NoFourteen (replicate z false ++ masters cs) 0 → entries (power z) p cs ≡ []
 unfolding entries step judge timer
 sleeps [] z p h f = refl
 sleeps (col true x ∷ cs) z p h f =
-    sleeps cs 0 (onward {P = Phase} (power z) true p) (omega arith)
+    sleeps cs 0 (opened (suc (p .column))) (omega arith)
     (none-later _ (masters cs) (suc z) 0 (drop-behind z (masters cs)) (omega arith) f)
 sleeps (col false x ∷ cs) z p h f =
     tested (ltb (z + 1) restZeros)
-    (λ q. rw q (sleeps cs (z + 1) (onward {P = Phase} (power z) false p) (ltb-true _ _ q) (rw (one-more z (masters cs)) at f)))
+    (λ q. rw q (sleeps cs (z + 1) (opened (suc (p .column))) (ltb-true _ _ q) (rw (one-more z (masters cs)) at f)))
     (λ q. let n : z + 1 ≡ restZeros = omega (arith, ltb-false) in absurd (f 0 (omega arith) (fourteenth z (masters cs) n)))
 
 -- A reader let in at k lists what a reader at rest lists from the end of the first fourteen zeros on.
@@ -215,5 +248,5 @@ unfolding listFrom
 from-first cs k j f =
     let on : k + (j - k + restZeros) ≡ j + restZeros = omega arith in
     rw (drop-drop, on)
-    at (wakes (drop k cs) 0 (j - k) (j - k + restZeros) (opened k) (opened (j + restZeros)) (omega arith) (omega arith) on
+    at (wakes (drop k cs) 0 (j - k) (j - k + restZeros) (opened k) (j + restZeros) (omega arith) (omega arith) on
     (first-later (masters cs) _ k k (sym (masters-drop k cs)) (omega arith) j (f .wholly) f))

@@ -16,6 +16,8 @@ pub mod Machine
 pub mod Dress
 pub mod Locks
 pub mod Late
+pub mod Start
+pub mod Opened
 pub mod Rows
 pub mod Memories
 pub mod Addressed

@@ -1,11 +1,11 @@
 -- What holds of every machine behind the timer, whatever its phases are: a zero brings it nearer to rest, what its phases say it says,
 -- and what they keep it keeps. Assumes nothing.
-use mathlib.Core.Path.{_≡_, refl}
-use mathlib.Core.Bool.{Bool, true, false}
+use mathlib.Core.Path.{_≡_, refl, sym}
+use mathlib.Core.Bool.{Bool, true, false, false≢true}
 use mathlib.Core.List.{List}
 use mathlib.Core.Option.{Option, none, some}
 use Prim.Native.Nat.{ℕ, suc}
-use Rattle.protocol.specs.Rest.{Timed, power, rest, frame, Judged, still, ends, meant, timer, judge}
+use Rattle.protocol.specs.Rest.{Timed, power, rest, frame, framed, Judged, still, ends, meant, timer, judge}
 use Rattle.protocol.specs.Machine.{Turn, stepped}
 use Rattle.protocol.specs.Entries.{Event, Place, Entry, note}
 use Rattle.laws.proofs.Every.{Every, IfAny, looked-up}
@@ -20,6 +20,14 @@ module _ {P S : Type 0} (begun : P) (silent ended : S) (turn : P → Turn P S) w
   -- A zero brings it one nearer to rest.
   pub soon-step : (s : Timed P) (n : ℕ) → Soon begun (suc n) s → Soon begun n (stepped silent ended turn (judge begun s false) .state)
   soon-step s n h = rw (moves (judge begun s false)) (soon-moved begun _ s n h)
+
+  -- Out of a frame it is silent.
+  pub silent-outside : (s : Timed P) (m : Bool) → framed s ≡ false → stepped silent ended turn (judge begun s m) .says ≡ silent
+  unfolding judge
+  silent-outside (power z) m h = looked-up (timer z m) (λ q. rw q) (λ z′ q. rw q)
+  silent-outside rest false h = refl
+  silent-outside rest true h = refl
+  silent-outside (frame z p) m h = absurd (false≢true (sym h))
 
 -- What holds of all that its phases say, holds of all that it says.
 pub says-so : {P S : Type 0} (Q : S → Type 0) (turn : P → Turn P S) {silent ended : S} → Q silent → Q ended → ((p : P) → Q (turn p .says))

@@ -15,7 +15,7 @@ bench : List Entry
 bench = entry Kind.lock 23 0 0 1 ∷ entry Kind.read 44 0 68 90 ∷ entry Kind.end 46 0 0 0 ∷ []
 
 bench-prints : listText bench
-    ≡ bytes "event\tcolumn\tid\taddress\tvalue\nlock\t23\t-\t-\t1\nread\t44\t0\t68\t90\nend\t46\t-\t-\t-\n"
+    ≡ bytes "event\tcolumn\tstart\tid\taddress\tvalue\nlock\t23\t14\t-\t-\t1\nread\t44\t14\t0\t68\t90\nend\t46\t14\t-\t-\t-\n"
 unfolding bench entry listText entryLines entryLine cells field decimal digitsIn
 bench-prints = refl
 

@@ -33,13 +33,13 @@ noted p o w = record { told = note p o (w .told); left = w .left; state = w .sta
 unfoldable pub walk : List Memory → Timed Phase → Place → List Bool → Walk (Timed Phase)
 walk ks s p [] = record { told = []; left = ks; state = s }
 walk ks s p (m ∷ ms) =
-    let t : Step = step ks s m in noted p (t .says) (walk (kept ks (t .says)) (t .state) (onward s m p) ms)
+    let t : Step = step ks s m in noted p (t .says) (walk (kept ks (t .says)) (t .state) (onward (t .state) p) ms)
 
 -- The same by the phases alone, where no column is the fourteenth zero.
 unfoldable pub phases : List Memory → Phase → Place → List Bool → Walk Phase
 phases ks q p [] = record { told = []; left = ks; state = q }
 phases ks q p (m ∷ ms) =
-    let t : Told = tell ks q m in noted p (t .says) (phases (kept ks (t .says)) (t .next) (onward (frame 0 q) m p) ms)
+    let t : Told = tell ks q m in noted p (t .says) (phases (kept ks (t .says)) (t .next) (onward (frame 0 (t .next)) p) ms)
 
 -- Along a chain, from any three that go together ..
 along-walk : (row : List Bool) (ks : List Memory) → Bytes ks
@@ -49,7 +49,7 @@ unfolding along walk
 along-walk [] ks bs s p = refl
 along-walk (m ∷ row) ks bs {a} {f} {r} s p =
     let n : Next ks f m (step ks a m) (λ x. Reader.step r m x) = move ks bs s m in
-    rw (memories-dress f 0 ks, n .passes) (ap (note p (step ks a m .says)) (along-walk row _ (n .bytes) (n .onward) (onward a m p)))
+    rw (memories-dress f 0 ks, n .passes) (ap (note p (step ks a m .says)) (along-walk row _ (n .bytes) (n .onward) (onward (step ks a m .state) p)))
 
 -- .. and so from power-on.
 pub account-walk : (ks : List Memory) (row : List Bool) → Bytes ks → account ks row ≡ walk ks powerOn (opened 0) row .told
@@ -64,8 +64,8 @@ pub walk-phases : (ks : List Memory) (q : Phase) (z : ℕ) (p : Place) (row : Li
     → walk ks (frame z q) p row ≡ timed (trailing z row) (phases ks q p row)
 unfolding walk phases calm trailing step judge timer
 walk-phases ks q z p [] h = refl
-walk-phases ks q z p (true ∷ row) h = ap (noted p (tell ks q true .says)) (walk-phases _ _ 0 (onward (frame 0 q) true p) row h)
+walk-phases ks q z p (true ∷ row) h = ap (noted p (tell ks q true .says)) (walk-phases _ _ 0 (onward (frame 0 q) p) row h)
 walk-phases ks q z p (false ∷ row) h =
     tested (ltb (z + 1) restZeros)
-    (λ t. rw t (ap (noted p (tell ks q false .says)) (walk-phases _ _ (z + 1) (onward (frame 0 q) false p) row (rw t at h))))
+    (λ t. rw t (ap (noted p (tell ks q false .says)) (walk-phases _ _ (z + 1) (onward (frame 0 q) p) row (rw t at h))))
     (λ t. absurd (false≢true (rw t at h)))

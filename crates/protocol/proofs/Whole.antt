@@ -9,7 +9,7 @@ use native.Mathlib.Omega.{arith}
 use lib.Dec.{leb·suc-zero}
 use lib.ListN.{length}
 use Rattle.protocol.specs.Limits.{lockFirst}
-use Rattle.protocol.specs.Rest.{Timed, power, rest, frame, timer, judge}
+use Rattle.protocol.specs.Rest.{Timed, power, rest, frame, framed, timer, judge}
 use Rattle.protocol.specs.Memory.{Memory}
 use Rattle.protocol.specs.Entries.{Kind, Event, Place, opened, onward, Entry, note}
 use Rattle.protocol.specs.Slave
@@ -82,6 +82,13 @@ noted ks p none s h = h
 noted ks p (some e) s h =
     record { list = ap (note p (some e)) (h .list); replayed = h .replayed; shown = (s, h .shown) }
 
+-- Three that go together are in a frame together, so that reader and account see the same start.
+same-frame : {ks : List Memory} {a : Timed Account.Phase} {f : ℕ → Timed Slave.Phase} {r : Timed Reader.Phase} → Together ks a f r
+    → framed r ≡ framed a
+same-frame (waiting z) = refl
+same-frame resting = refl
+same-frame (in-frame z s) = refl
+
 -- Column after column, from any three that go together ..
 faithful : (row : List Bool) (ks : List Memory) → Bytes ks
     → {a : Timed Account.Phase} {f : ℕ → Timed Slave.Phase} {r : Timed Reader.Phase} → Together ks a f r → (p : Place)
@@ -91,8 +98,9 @@ unfolding Account.along Reader.entries Reader.columns Chain.answers Chain.after 
 faithful [] ks bs {a} {f} {r} s p = record { list = refl; replayed = sym (memories-dress f 0 ks); shown = tt }
 faithful (m ∷ row) ks bs {a} {f} {r} s p =
     let n : Next ks f m (Account.step ks a m) (λ x. Reader.step r m x) = move ks bs s m in
-    rw (memories-dress f 0 ks, n .passes, n .alike)
-    (noted ks p (Account.step ks a m .says) (n .shows) (faithful row (kept ks (Account.step ks a m .says)) (n .bytes) (n .onward) (onward a m p)))
+    rw (memories-dress f 0 ks, n .passes, n .alike, same-frame (n .onward))
+    (noted ks p (Account.step ks a m .says) (n .shows)
+    (faithful row (kept ks (Account.step ks a m .says)) (n .bytes) (n .onward) (onward (Account.step ks a m .state) p)))
 
 -- .. and so from power-on.
 pub whole : (ks : List Memory) (row : List Bool) → Bytes ks

@@ -99,7 +99,7 @@ unfoldable pub along : List Slave → Timed Phase → Place → List Bool → Li
 along ss s p [] = []
 along ss s p (m ∷ ms) =
     note p (step (memories ss) s m .says)
-    (along (column ss m .slaves) (step (memories ss) s m .state) (onward s m p) ms)
+    (along (column ss m .slaves) (step (memories ss) s m .state) (onward (step (memories ss) s m .state) p) ms)
 
 -- Entries: "The chain's account", of a master row from power-on.
 unfoldable pub account : List Memory → List Bool → List Entry

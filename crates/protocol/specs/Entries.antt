@@ -7,7 +7,7 @@ use Prim.Native.Nat.{ℕ, suc}
 use Prim.Native.String.{String}
 use Prim.Native.String as Text
 use lib.Dec.{eqb}
-use Rattle.protocol.specs.Rest.{Timed}
+use Rattle.protocol.specs.Rest.{Timed, framed}
 
 -- The names of the kinds, in the table's order.
 pub data Kind : Type 0 where
@@ -81,17 +81,19 @@ event k id address value =
       value = cond (table k .has-value) value 0;
     }
 
--- Where in the row it stands.
+-- Where in the row it stands. Request 02: "Each entry shall carry the column of its frame's S as well"; out of a frame that is the column
+-- itself, where the next S would stand.
 pub record Place : Type 0 where
   pub column : ℕ
+  pub start : ℕ
 
 -- "An entry's column counts from the start of the row, wherever the reader was let in": the place of one let in at column k ..
 abbrev pub opened : (k : ℕ) → Place
-opened k = record { column = k }
+opened k = record { column = k; start = k }
 
--- .. and the place one column on, whatever the state and the master's bit.
-abbrev pub onward : {P : Type 0} → Timed P → (m : Bool) → Place → Place
-onward s m p = record { column = suc (p .column) }
+-- .. and the place one column on, by the state that the column leads to: the start goes with the frame.
+abbrev pub onward : {P : Type 0} → Timed P → Place → Place
+onward s p = record { column = suc (p .column); start = cond (framed s) (p .start) (suc (p .column)) }
 
 -- An entry of the list.
 pub record Entry : Type 0 where

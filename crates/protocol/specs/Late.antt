@@ -1,12 +1,15 @@
 -- Late opening, stated of the rows and not by running a reader: the first fourteen master zeros at or after a column, and
--- the entries after it.
+-- the entries after it. And opening at an entry's frame.
+use mathlib.Core.Path.{_≡_}
 use mathlib.Core.Bool.{Bool, true, false, cond}
 use mathlib.Core.List.{List, [], _∷_}
-use Prim.Native.Nat.{ℕ, zero, suc, _≤_, _<_}
+use mathlib.Core.Option.{some}
+use Prim.Native.Nat.{ℕ, zero, suc, _+_, _-_, _≤_, _<_}
 use lib.Dec.{leb}
-use lib.ListN.{drop}
+use lib.ListN.{drop, getElem?}
 use Rattle.protocol.specs.Limits.{restZeros}
-use Rattle.protocol.specs.Entries.{Entry}
+use Rattle.protocol.specs.Entries.{Place, Entry}
+use Rattle.protocol.specs.Reader.{Column, listFrom}
 
 -- The row begins with n zeros.
 unfoldable pub Zeros : ℕ → List Bool → Type 0
@@ -33,3 +36,19 @@ NoFourteen row k = (i : ℕ) → k ≤ i → FourteenAt row i → ⊥
 unfoldable pub fromColumn : ℕ → List Entry → List Entry
 fromColumn j [] = []
 fromColumn j (e ∷ es) = cond (leb j (e .place .column)) (e ∷ fromColumn j es) (fromColumn j es)
+
+-- Start: "The first 1 after rest is the start bit S". The S of the frame that a place is in, in the master row alone: a 1 behind fourteen
+-- zeros, all of them at or after k, and from it up to the place's column no fourteen zeros are complete.
+pub record Started (row : List Bool) (k : ℕ) (p : Place) : Type 0 where
+  pub fourteen : FourteenAt row (p .start - restZeros)
+  pub wholly : k + restZeros ≤ p .start
+  pub one : getElem? row (p .start) ≡ some true
+  pub earlier : p .start < p .column
+  pub lasting : (j : ℕ) → p .start < j → j + restZeros ≤ p .column → FourteenAt row j → ⊥
+
+-- Request 02, "Open at the frame": entry i of the list from column k has this start. Let in fourteen columns before it a reader lists the
+-- same from some entry on, and entry i is among them.
+pub record OpenedAt (cs : List Column) (k i start : ℕ) : Type 0 where
+  pub skipped : ℕ
+  pub not-it : skipped ≤ i
+  pub the-same : listFrom (start - restZeros) cs ≡ drop skipped (listFrom k cs)

@@ -9,13 +9,13 @@ use lib.ListN.{take}
 use Rattle.protocol.specs.Entries.{Kind, table, number, kinds, numbered, Entry}
 use Rattle.protocol.specs.Pieces.{inBytes, numberAt, pieces, isWhole, joined}
 
--- Entries: "kind, column (two bytes, high first), id, address, value".
+-- Entries: "kind, column (two bytes, high first), id, address, value"; Request 02: "two bytes for S placed after the column".
 pub data Field : Type 0 where
-  kind column id address value : Field
+  kind column start id address value : Field
 
 -- The fields that are printed as numbers, in their order ..
 abbrev pub numbers : List Field
-numbers = Field.column ∷ Field.id ∷ Field.address ∷ Field.value ∷ []
+numbers = Field.column ∷ Field.start ∷ Field.id ∷ Field.address ∷ Field.value ∷ []
 
 -- .. behind the kind.
 abbrev pub fields : List Field
@@ -25,9 +25,10 @@ fields = Field.kind ∷ numbers
 abbrev pub order : Field → ℕ
 order Field.kind = 0
 order Field.column = 1
-order Field.id = 2
-order Field.address = 3
-order Field.value = 4
+order Field.start = 2
+order Field.id = 3
+order Field.address = 4
+order Field.value = 5
 
 -- A list is of one layout, which says how wide its fields are; every list made has the layout `current`.
 pub data Layout : Type 0 where
@@ -36,10 +37,11 @@ pub data Layout : Type 0 where
 abbrev pub current : Layout
 current = narrow
 
--- "Six bytes": a column's two, and one of each other field.
+-- Request 02: "an entry becomes eight bytes": two of either column, and one of each other field.
 abbrev pub width : Layout → Field → ℕ
 width narrow Field.kind = 1
 width narrow Field.column = 2
+width narrow Field.start = 2
 width narrow Field.id = 1
 width narrow Field.address = 1
 width narrow Field.value = 1
@@ -48,22 +50,25 @@ width narrow Field.value = 1
 abbrev pub valueOf : Entry → Field → ℕ
 valueOf e Field.kind = number (e .event .kind)
 valueOf e Field.column = e .place .column
+valueOf e Field.start = e .place .start
 valueOf e Field.id = e .event .id
 valueOf e Field.address = e .event .address
 valueOf e Field.value = e .event .value
 
--- Whether an entry names a field: its column always, the others as the table says of its kind.
+-- Whether an entry names a field: its two columns always, the others as the table says of its kind.
 abbrev pub named : Entry → Field → Bool
 named e Field.kind = true
 named e Field.column = true
+named e Field.start = true
 named e Field.id = table (e .event .kind) .has-id
 named e Field.address = table (e .event .kind) .has-address
 named e Field.value = table (e .event .kind) .has-value
 
--- Text: a field's name in the header, "`event` TAB `column` TAB `id` TAB `address` TAB `value`".
+-- Text: a field's name in the header, "`event` TAB `column` TAB `id` TAB `address` TAB `value`"; Request 02: "a field `start` there".
 abbrev pub heading : Field → String
 heading Field.kind = "event"
 heading Field.column = "column"
+heading Field.start = "start"
 heading Field.id = "id"
 heading Field.address = "address"
 heading Field.value = "value"
@@ -73,7 +78,7 @@ abbrev pub entryBy : Option Kind → (Field → ℕ) → Option Entry
 entryBy none v = none
 entryBy (some k) v =
     some (record {
-      place = record { column = v Field.column };
+      place = record { column = v Field.column; start = v Field.start };
       event = record { kind = k; id = v Field.id; address = v Field.address; value = v Field.value };
     })
 
@@ -137,6 +142,6 @@ unfoldable pub allEntries : Layout → List (List ℕ) → Bool
 allEntries l [] = true
 allEntries l (p ∷ ps) = isEntry (entryAt l p 0) && allEntries l ps
 
--- Refusal 12: "list length no multiple of 6, or a kind outside 1 to 16".
+-- Refusal 12, by Request 02: list length no multiple of 8, "or a kind outside 1 to 16".
 unfoldable pub isList : Layout → (list : List ℕ) → Bool
 isList l list = isWhole (entryBytes l) list && allEntries l (pieces (entryBytes l) list)

@@ -153,7 +153,7 @@ columns (m ∷ ms) (x ∷ xs) = col m x ∷ columns ms xs
 -- The entries that columns show to a reader in state s, the first of them at place p of the row.
 unfoldable pub entries : Timed Phase → Place → List Column → List Entry
 entries s p [] = []
-entries s p (col m x ∷ cs) = note p (step s m x .says) (entries (step s m x .state) (onward s m p) cs)
+entries s p (col m x ∷ cs) = note p (step s m x .says) (entries (step s m x .state) (onward (step s m x .state) p) cs)
 
 -- The reader's state after columns ..
 unfoldable pub after : Timed Phase → List Column → Timed Phase
@@ -163,7 +163,7 @@ after s (col m x ∷ cs) = after (step s m x .state) cs
 -- .. and the place behind them.
 unfoldable pub placeAfter : Timed Phase → Place → List Column → Place
 placeAfter s p [] = p
-placeAfter s p (col m x ∷ cs) = placeAfter (step s m x .state) (onward s m p) cs
+placeAfter s p (col m x ∷ cs) = placeAfter (step s m x .state) (onward (step s m x .state) p) cs
 
 -- "An entry's column counts from the start of the row, wherever the reader was let in": let in at column k, at power-on.
 unfoldable pub listFrom : (k : ℕ) → List Column → List Entry

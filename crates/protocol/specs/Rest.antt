@@ -12,6 +12,12 @@ pub data Timed (P : Type 0) : Type 0 where
   rest : Timed P
   frame : ℕ → P → Timed P
 
+-- A frame was begun and has not ended.
+abbrev pub framed : {P : Type 0} → Timed P → Bool
+framed (power z) = false
+framed rest = false
+framed (frame z p) = true
+
 -- Rest: "At power-on nobody is at rest".
 abbrev pub powerOn : {P : Type 0} → Timed P
 powerOn = power 0

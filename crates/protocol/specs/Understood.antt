@@ -11,7 +11,7 @@ use Rattle.protocol.specs.Division.{topBit}
 use Rattle.protocol.specs.Memory.{Memory, allows, holds}
 use Rattle.protocol.specs.Slave.{more}
 use Rattle.protocol.specs.Chain.{answersFrom}
-use Rattle.protocol.specs.Entries.{Kind, Event, event, Place, opened, Entry}
+use Rattle.protocol.specs.Entries.{Kind, Event, event, Place, Entry}
 use Rattle.protocol.specs.Reader.{columns, listFrom}
 
 -- The list that a reader makes of a master row and a chain's answers to it.
@@ -20,7 +20,7 @@ listed ks row = listFrom 0 (columns row (answersFrom ks row))
 
 -- A place in the row's frame ..
 abbrev pub frameAt : (column : ℕ) → Place
-frameAt column = opened column
+frameAt column = record { column = column; start = restZeros }
 
 -- .. and an entry there.
 abbrev pub inFrame : (column : ℕ) → Event → Entry

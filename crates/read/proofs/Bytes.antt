@@ -3,6 +3,7 @@ use mathlib.Core.Bool.{Bool, true, false, _&&_, _||_, Bool·beq}
 use mathlib.Core.List.{List, [], _∷_}
 use mathlib.Core.Option.{Option, none, some}
 use Prim.Native.Nat.{ℕ, zero, suc, _+_, _-_, _/_, _%_, _^_, _≤_, _<_}
+use native.Mathlib.Nat.{le-refl}
 use native.Mathlib.Omega.{arith}
 use borrow.Author.Tests.{ltb-true}
 use lib.Dec.{ltb}
@@ -17,7 +18,7 @@ use Rattle.protocol.specs.Reader.{Locks, ones, upto, mixed, seen, seenAt, Phase
 use Rattle.laws.proofs.Every.{Every, IfAny, either, tested, both}
 use Rattle.protocol.proofs.Machine.{At, keeps, every-note}
 use Rattle.read.specs.Read.{listOf}
-use Rattle.read.proofs.Left.{length-columns}
+use Rattle.read.proofs.Left.{start-early, length-columns}
 
 -- A byte.
 abbrev Byte : ℕ → Type 0
@@ -150,25 +151,26 @@ good-step s m x h =
     keeps Held (omega arith, tt) (IfAny Bytes) tt (event-bytes Kind.end 0 0 0 (omega arith) (omega arith) (omega arith))
     (λ p g. good-look p m x g) s m h
 
--- A column below the limit, and fields that are bytes.
+-- A column below the limit, a start before it, and fields that are bytes.
 abbrev pub Small : (limit : ℕ) → Entry → Type 0
-Small limit e = (e .place .column < limit) × Bytes (e .event)
+Small limit e = (e .place .column < limit) × (e .place .start ≤ e .place .column) × Bytes (e .event)
 
-small-entries : (s : Timed Phase) (p : Place) (cs : List Column) (limit : ℕ) → At Held s → p .column + length cs ≤ limit
-    → Every (Small limit) (entries s p cs)
+small-entries : (s : Timed Phase) (p : Place) (cs : List Column) (limit : ℕ) → At Held s → p .start ≤ p .column
+    → p .column + length cs ≤ limit → Every (Small limit) (entries s p cs)
 unfolding entries
-small-entries s p [] limit h l = tt
-small-entries s p (col m x ∷ cs) limit h l =
+small-entries s p [] limit h early l = tt
+small-entries s p (col m x ∷ cs) limit h early l =
     let good = good-step s m x h in
-    every-note (Small limit) p (step s m x .says) (entries (step s m x .state) (onward s m p) cs) (here (step s m x .says) (good .1))
-    (small-entries (step s m x .state) (onward s m p) cs limit (good .0) (omega arith))
+    let next : Timed Phase = step s m x .state in
+    every-note (Small limit) p (step s m x .says) (entries next (onward next p) cs) (here (step s m x .says) (good .1))
+    (small-entries next (onward next p) cs limit (good .0) (start-early next p early) (omega arith))
   where
     here : (o : Option Event) → IfAny Bytes o → IfAny (λ e. Small limit (record { place = p; event = e })) o
     here none b = tt
-    here (some e) b = (omega arith, b)
+    here (some e) b = (omega arith, early, b)
 
 pub small-list : (k : ℕ) (cdm cds : List ℕ) → k ≤ length cdm → Every (Small (length cdm)) (listOf k cdm cds)
 unfolding listOf listFrom
 small-list k cdm cds h =
-    small-entries powerOn (opened k) _ (length cdm) tt
+    small-entries powerOn (opened k) _ (length cdm) tt (le-refl k)
     (omega (arith, length-drop k (columns (rowOf cdm) (rowOf cds)), length-columns cdm cds))

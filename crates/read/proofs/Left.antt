@@ -1,28 +1,30 @@
 -- What a reading makes of one column, and of the rows from a column on. Assumes nothing.
 use mathlib.Core.Path.{_≡_, refl, sym, ap, _∙_}
-use mathlib.Core.Bool.{Bool}
+use mathlib.Core.Bool.{Bool, true, false}
 use mathlib.Core.List.{List, [], _∷_}
 use mathlib.Core.Option.{Option, none, some, Option·none-ne-some}
 use Prim.Native.Nat.{ℕ, zero, suc, _+_, _-_, _≤_, _<_}
-use native.Mathlib.Nat.{le-of-suc-le-suc, not-suc-le-zero, add-zero, zero-add}
+use native.Mathlib.Nat.{le-refl, le-of-suc-le-suc, not-suc-le-zero, add-zero, zero-add}
 use native.Mathlib.Numerals.{add-one}
 use native.Mathlib.Omega.{arith}
 use lib.ListN.{length, take, drop, getD, drop-of-length-le, length-drop}
 use lib.Seq.{take-all}
 use Rattle.protocol.specs.Bits.{bitOf, rowOf}
-use Rattle.protocol.specs.Rest.{Timed, powerOn}
+use Rattle.protocol.specs.Rest.{Timed, framed, powerOn}
 use Rattle.protocol.specs.Entries as protocol
 use Rattle.protocol.specs.Entries.{Kind, number, kinds, numbered, opened, onward, note}
 use Rattle.protocol.specs.Layout.{fieldBytes, bytesOf}
 use Rattle.protocol.specs.Reader as Reader
-use Rattle.protocol.specs.Reader.{Phase, Column, col, columns, entries, placeAfter, listFrom}
+use Rattle.protocol.specs.Reader.{Phase, look, begun, Column, col, columns, entries, placeAfter, listFrom}
+use Rattle.protocol.proofs.Machine.{silent-outside}
 use Rattle.protocol.proofs.Codec.{numbered-own}
-use Rattle.reader.specs.Code.{stateOf, Moved, eventOf, moved, after, Steps}
+use Rattle.laws.proofs.Every.{either, tested}
+use Rattle.reader.specs.Code.{stateOf, placeOf, Moved, eventOf, moved, after, Steps}
 use Rattle.reader.specs.declared.Event.{Event}
+use Rattle.reader.specs.declared.Reader as code
 use Rattle.reader.specs.declared.Stepped.{Stepped}
 use Rattle.read.specs.Read.{listOf}
-use Rattle.read.specs.Parts.{placeOf, bytesFor, kept, keptAll, Reached, reached}
-use Rattle.read.specs.declared.Place.{Place}
+use Rattle.read.specs.Parts.{bytesFor, kept, keptAll, Reached, reached}
 
 -- The column at i stands first of what is left ..
 column-here : (i : ℕ) (ms xs : List ℕ) → i < length ms → i < length xs
@@ -40,6 +42,10 @@ length-columns [] xs = omega arith
 length-columns (m ∷ ms) [] = omega arith
 length-columns (m ∷ ms) (x ∷ xs) = omega (arith, length-columns ms xs)
 
+-- No start lies behind its column.
+pub start-early : (s : Timed Phase) (p : protocol.Place) → p .start ≤ p .column → onward s p .start ≤ suc (p .column)
+start-early s p h = either (λ n. n ≤ suc (p .column)) (framed s) (omega arith) (le-refl _)
+
 -- "At most one entry falls in a column."
 length-note : (p : protocol.Place) (o : Option protocol.Event) (es : List protocol.Entry) → length (note p o es) ≤ 1 + length es
 length-note p none es = omega arith
@@ -50,7 +56,7 @@ unfolding entries
 length-entries s p [] = omega arith
 length-entries s p (col m x ∷ cs) =
     let t : Reader.Step = Reader.step s m x in
-    omega (arith, length-note p (t .says) (entries (t .state) (onward s m p) cs), length-entries (t .state) (onward s m p) cs)
+    omega (arith, length-note p (t .says) (entries (t .state) (onward (t .state) p) cs), length-entries (t .state) (onward (t .state) p) cs)
 
 pub length-listed : (k : ℕ) (cdm cds : List ℕ) → length (listOf k cdm cds) ≤ length cdm - k
 unfolding listOf listFrom
@@ -68,30 +74,29 @@ unfolding numbered
 not-zero k e = Option·none-ne-some k (ap (λ (n : ℕ). numbered n kinds) (sym e) ∙ numbered-own k)
 
 -- A column without an event, and one with: what is reached from it is what is reached from behind it.
-module _ (s : Timed Phase) (m x : Bool) (p : Place) (n : ℕ) (out : List ℕ) (cs : List Column) where
+module _ (s : Timed Phase) (m x : Bool) (p : protocol.Place) (n : ℕ) (out : List ℕ) (cs : List Column) where
   abbrev next : Reader.Step
   next = Reader.step s m x
 
   abbrev from : ℕ → List ℕ → Reached
-  from n′ out′ = reached (next .state) (onward s m (placeOf p)) n′ out′ cs
+  from n′ out′ = reached (next .state) (onward (next .state) p) n′ out′ cs
 
-  silent : (o : Option protocol.Event) → next .says ≡ o → eventOf o .kind ≡ 0
-      → reached s (placeOf p) n out (col m x ∷ cs) ≡ from n out
+  silent : (o : Option protocol.Event) → next .says ≡ o → eventOf o .kind ≡ 0 → reached s p n out (col m x ∷ cs) ≡ from n out
   unfolding reached entries placeAfter Reader.after
   silent none q e = rw q
   silent (some a) q e = absurd (not-zero (a .kind) e)
 
   given : (o : Option protocol.Event) → next .says ≡ o → (eventOf o .kind ≡ 0 → ⊥)
-      → reached s (placeOf p) n out (col m x ∷ cs) ≡ from (n + 1) (kept out n (bytesFor p (eventOf o)))
+      → reached s p n out (col m x ∷ cs) ≡ from (n + 1) (kept out n (bytesFor p (eventOf o)))
   unfolding reached entries placeAfter Reader.after keptAll bytesFor bytesOf fieldBytes
   given none q h = absurd (h refl)
   given (some a) q h =
-      let es : List protocol.Entry = entries (next .state) (onward s m (placeOf p)) cs in
+      let es : List protocol.Entry = entries (next .state) (onward (next .state) p) cs in
       let out′ : List ℕ = kept out n (bytesFor p (eventOf (some a))) in
       rw q
       (ap (λ (k : ℕ). record {
         state = Reader.after (next .state) cs;
-        place = placeAfter (next .state) (onward s m (placeOf p)) cs;
+        place = placeAfter (next .state) (onward (next .state) p) cs;
         count = k;
         buffer = keptAll out′ (n + 1) es;
       }) (more (length es)))
@@ -99,32 +104,61 @@ module _ (s : Timed Phase) (m x : Bool) (p : Place) (n : ℕ) (out : List ℕ) (
       more : (k : ℕ) → n + suc k ≡ n + 1 + k
       more k = omega arith
 
--- The rows from column i on, by a step of the code.
-module _ (cdm cds : List ℕ) (i : ℕ) (s : Timed Phase) (r : Stepped) (h : i < length cdm) (same : length cdm ≡ length cds)
-    (steps : Steps s (bitOf (getD cdm i 0)) (bitOf (getD cds i 0)) r) (p p′ : Place) (n : ℕ) (out : List ℕ)
-    (on : placeOf p′ ≡ onward s (bitOf (getD cdm i 0)) (placeOf p)) where
+-- The rows from column i on, by a step of the code in a column of the row.
+module _ (cdm cds : List ℕ) (i : ℕ) (reader : code.Reader) (column : ℕ) (r : Stepped) (h : i < length cdm) (same : length cdm ≡ length cds)
+    (steps : Steps (stateOf reader) (placeOf reader column) (bitOf (getD cdm i 0)) (bitOf (getD cds i 0)) r) (n : ℕ) (out : List ℕ) where
+  abbrev step : Reader.Step
+  step = Reader.step (stateOf reader) (bitOf (getD cdm i 0)) (bitOf (getD cds i 0))
+
   abbrev rows : ℕ → List Column
   rows k = drop k (columns (rowOf cdm) (rowOf cds))
 
+  abbrev before : Reached
+  before = reached (stateOf reader) (placeOf reader column) n out (rows i)
+
   abbrev to : ℕ → List ℕ → Reached
-  to n′ out′ = reached (stateOf (r .next)) (placeOf p′) n′ out′ (rows (i + 1))
+  to n′ out′ = reached (stateOf (r .next)) (placeOf (r .next) (column + 1)) n′ out′ (rows (i + 1))
 
   here : rows i ≡ col (bitOf (getD cdm i 0)) (bitOf (getD cds i 0)) ∷ rows (i + 1)
   here = rw add-one (column-here i cdm cds h (omega arith))
 
-  state-is : stateOf (r .next) ≡ Reader.step s (bitOf (getD cdm i 0)) (bitOf (getD cds i 0)) .state
+  state-is : stateOf (r .next) ≡ step .state
   unfolding after moved
   state-is = ap (λ (v : Moved). v .state) (steps .meets)
 
-  event-is : r .event ≡ eventOf (Reader.step s (bitOf (getD cdm i 0)) (bitOf (getD cds i 0)) .says)
+  place-is : placeOf (r .next) (column + 1) ≡ onward (step .state) (placeOf reader column)
+  unfolding after moved
+  place-is = rw add-one (ap (λ (v : Moved). v .place) (steps .meets))
+
+  event-is : r .event ≡ eventOf (step .says)
   unfolding after moved
   event-is = ap (λ (v : Moved). v .event) (steps .meets)
 
-  pub turn-none : r .event .kind ≡ 0 → reached s (placeOf p) n out (rows i) ≡ to n out
-  turn-none e = rw (here, state-is, on) (silent s _ _ p n out (rows (i + 1)) _ refl (rw (← event-is) e))
+  pub still-early : placeOf reader column .start ≤ column → placeOf (r .next) (column + 1) .start ≤ column + 1
+  still-early early =
+      rw (ap (λ (p : protocol.Place). p .start) place-is, add-one) (start-early (step .state) (placeOf reader column) early)
 
-  pub turn-some : (r .event .kind ≡ 0 → ⊥) → reached s (placeOf p) n out (rows i) ≡ to (n + 1) (kept out n (bytesFor p (r .event)))
-  turn-some e = rw (here, state-is, on, event-is) (given s _ _ p n out (rows (i + 1)) _ refl (rw (← event-is) e))
+  pub turn-none : r .event .kind ≡ 0 → before ≡ to n out
+  turn-none e = rw (here, place-is, state-is) (silent (stateOf reader) _ _ (placeOf reader column) n out (rows (i + 1)) _ refl (rw (← event-is) e))
+
+  -- Only a frame shows an event, and there the S that the reader holds is the frame's.
+  module _ (e : r .event .kind ≡ 0 → ⊥) where
+    in-frame : framed (stateOf reader) ≡ true
+    unfolding Reader.step
+    in-frame =
+        tested (framed (stateOf reader)) (λ f. f)
+        (λ f. absurd (e (ap (λ (v : Event). v .kind) (event-is ∙ ap eventOf (silent-outside begun none _ (λ p. look p _ _) (stateOf reader) _ f)))))
+
+    its-place : record { column = column; start = reader .body .start } ≡ placeOf reader column
+    its-place = rw in-frame
+
+    pub early-enough : placeOf reader column .start ≤ column → reader .body .start ≤ column
+    early-enough early = rw in-frame at early
+
+    pub turn-some : before ≡ to (n + 1) (kept out n (bytesFor (record { column = column; start = reader .body .start }) (r .event)))
+    turn-some =
+        rw (its-place, here, place-is, state-is, event-is)
+        (given (stateOf reader) _ _ (placeOf reader column) n out (rows (i + 1)) _ refl (rw (← event-is) e))
 
 -- At the end nothing is left.
 pub none-left : (cdm cds : List ℕ) (i : ℕ) (s : Timed Phase) (p : protocol.Place) (n : ℕ) (out : List ℕ) → length cdm ≤ i
@@ -153,8 +187,8 @@ behind k row = take (length row - k) (drop k row)
 behind-is : (k : ℕ) (row : List ℕ) → behind k row ≡ drop k row
 behind-is k row = take-all (length row - k) (drop k row) (omega (arith, length-drop k row))
 
-pub from-opening : (cdm cds : List ℕ) (k : ℕ) (s : Timed Phase) (p : Place) (out : List ℕ) (r : Reached) → s ≡ powerOn → placeOf p ≡ opened k
-    → r ≡ reached s (placeOf p) 0 out (columns (rowOf (behind k cdm)) (rowOf (behind k cds)))
+pub from-opening : (cdm cds : List ℕ) (k : ℕ) (s : Timed Phase) (p : protocol.Place) (out : List ℕ) (r : Reached) → s ≡ powerOn → p ≡ opened k
+    → r ≡ reached s p 0 out (columns (rowOf (behind k cdm)) (rowOf (behind k cds)))
     → (r .count ≡ length (listOf k cdm cds)) × (r .buffer ≡ keptAll out 0 (listOf k cdm cds))
 unfolding reached listOf listFrom
 from-opening cdm cds k s p out r e h q =

@@ -11,7 +11,7 @@ use Rattle.protocol.specs.Rest.{Timed}
 use Rattle.protocol.specs.Entries as protocol
 use Rattle.protocol.specs.Layout.{Field, fields, current, entryBytes, fieldBytes, bytesOf}
 use Rattle.protocol.specs.Reader.{Phase, Column, entries, after, placeAfter}
-use Rattle.reader.specs.Code.{stateOf}
+use Rattle.reader.specs.Code.{stateOf, placeOf}
 use Rattle.reader.specs.declared.Event.{Event}
 use Rattle.read.specs.declared.Place.{Place}
 use Rattle.read.specs.declared.Reading.{Reading}
@@ -22,24 +22,25 @@ pub record Rows (cdm cds : List ℕ) (k : ℕ) : Type 0 where
   pub equal : length cdm ≡ length cds
   pub within : k ≤ length cdm
 
--- A place of the code, as line has it.
-abbrev pub placeOf : Place → protocol.Place
-placeOf p = record { column = p .column }
+-- A place of the code, as protocol has it.
+abbrev pub placeIn : Place → protocol.Place
+placeIn p = record { column = p .column; start = p .start }
 
 -- It lies within a row, or just behind one.
 abbrev pub inRow : Place → Type 0
-inRow p = p .column ≤ columnLimit
+inRow p = (p .column ≤ columnLimit) × (p .start ≤ p .column)
 
 -- What the code has in each field ..
-abbrev pub valueFor : Place → Event → Field → ℕ
+abbrev pub valueFor : protocol.Place → Event → Field → ℕ
 valueFor p e Field.kind = e .kind
 valueFor p e Field.column = p .column
+valueFor p e Field.start = p .start
 valueFor p e Field.id = e .id
 valueFor p e Field.address = e .address
 valueFor p e Field.value = e .value
 
 -- .. and the bytes of it.
-unfoldable pub bytesFor : Place → Event → List ℕ
+unfoldable pub bytesFor : protocol.Place → Event → List ℕ
 bytesFor p e = fieldBytes current fields (valueFor p e)
 
 -- So many entries have room.
@@ -70,4 +71,4 @@ reached s p n out cs =
 -- .. and of the code.
 abbrev pub reachedBy : Reading → (out : List ℕ) → Reached
 reachedBy r out =
-    record { state = stateOf (r .reader); place = placeOf (r .place); count = r .count; buffer = out }
+    record { state = stateOf (r .reader); place = placeOf (r .reader) (r .column); count = r .count; buffer = out }

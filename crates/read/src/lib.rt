@@ -9,26 +9,26 @@ ghost use Rattle.protocol.specs.Limits.{columnLimit};
 ghost use Rattle.protocol.specs.Bits.{rowOf};
 ghost use Rattle.protocol.specs.Layout.{current, entryBytes};
 ghost use Rattle.protocol.specs.Reader.{columns};
-ghost use Rattle.protocol.specs.Entries.{onward};
 ghost use Rattle.job.specs.Refusals.{first, given};
-ghost use Rattle.reader.specs.Code.{stateOf, small};
+ghost use Rattle.reader.specs.Code.{stateOf, placeOf, small};
 ghost use Rattle.read.specs.Read.{rowsRefusals, listOf, Listed};
-ghost use Rattle.read.specs.Parts.{Rows, placeOf, inRow, bytesFor, roomOf, kept, keptAll, reached, reachedBy};
+ghost use Rattle.read.specs.Parts.{Rows, placeIn, inRow, bytesFor, roomOf, kept, keptAll, reached, reachedBy};
 use job::Detail;
 use job::ENTRY_BYTES;
 use job::Outcome;
 use reader::Event;
 use reader::Reader;
 
-// Where in the row a column stands.
+// Where in the row an entry stands: its column, and that of its frame's S.
 struct Place {
     column: usize,
+    start: usize,
 }
 
-// A reading under way: the reader, the place of the next column, and how many entries there were.
+// A reading under way: the reader, the next column, and how many entries there were.
 struct Reading {
     reader: Reader,
-    place: Place,
+    column: usize,
     count: usize,
 }
 
@@ -85,10 +85,9 @@ fn scan(cdm: &[u8], cds: &[u8], opening: usize, out: &mut [u8]) -> usize
     requires { ⌜ Rows (now cdm) (now cds) opening ⌝ }
     ensures { λ r. ⌜ (r ≡ length (listOf opening (now (cdm .entry)) (now (cds .entry)))) × (now (out .exit) ≡ keptAll (now (out .entry)) 0 (listOf opening (now (cdm .entry)) (now (cds .entry)))) ⌝ }
 {
-    let place = Place { column: opening };
     let start = Reading {
         reader: Reader::new(),
-        place: place,
+        column: opening,
         count: 0,
     };
     let end = scan_on(start, &cdm[opening..], &cds[opening..], out);
@@ -98,45 +97,38 @@ fn scan(cdm: &[u8], cds: &[u8], opening: usize, out: &mut [u8]) -> usize
 // A reading goes on over a part of the rows, from any state: it puts the entries while there is room, and counts on past it. The one
 // caller of step, which is inlined here.
 fn scan_on(start: Reading, cdm: &[u8], cds: &[u8], out: &mut [u8]) -> Reading
-    requires { ⌜ (length (now cdm) ≡ length (now cds)) × (start .place .column + length (now cdm) ≤ columnLimit) × (start .count ≤ start .place .column) ⌝ }
-    ensures { λ r. ⌜ reachedBy r (now (out .exit)) ≡ reached (stateOf (start .reader)) (placeOf (start .place)) (start .count) (now (out .entry)) (columns (rowOf (now (cdm .entry))) (rowOf (now (cds .entry)))) ⌝ }
+    requires { ⌜ (length (now cdm) ≡ length (now cds)) × (start .column + length (now cdm) ≤ columnLimit) × (start .count ≤ start .column) × (placeOf (start .reader) (start .column) .start ≤ start .column) ⌝ }
+    ensures { λ r. ⌜ reachedBy r (now (out .exit)) ≡ reached (stateOf (start .reader)) (placeOf (start .reader) (start .column)) (start .count) (now (out .entry)) (columns (rowOf (now (cdm .entry))) (rowOf (now (cds .entry)))) ⌝ }
 {
     let mut reader = start.reader;
-    let mut place = start.place;
+    let mut column = start.column;
     let mut n = start.count;
     let mut i = 0;
     while i < cdm.len() {
-        let m = cdm[i] == 1;
-        let t = reader.step(m, cds[i] == 1);
+        let t = reader.step(column, cdm[i] == 1, cds[i] == 1);
         let e = t.event;
         if e.kind != 0 {
+            let place = Place {
+                column: column,
+                start: reader.body.start,
+            };
             n = keep(out, n, place, e);
         }
-        place = onward(reader, m, place);
         reader = t.next;
+        column += 1;
         i += 1;
     }
     Reading {
         reader: reader,
-        place: place,
+        column: column,
         count: n,
-    }
-}
-
-// The place one column on.
-fn onward(reader: Reader, m: bool, place: Place) -> Place
-    requires { ⌜ inRow place ⌝ }
-    ensures { λ r. ⌜ placeOf r ≡ onward (stateOf reader) m (placeOf place) ⌝ }
-{
-    Place {
-        column: place.column + 1,
     }
 }
 
 // The entry after n others, where there is room for it; returns how many there are now.
 fn keep(out: &mut [u8], n: usize, place: Place, e: Event) -> usize
     requires { ⌜ (n ≤ columnLimit) × inRow place × small e ⌝ }
-    ensures { λ r. ⌜ (r ≡ n + 1) × (now (out .exit) ≡ kept (now (out .entry)) n (bytesFor place e)) ⌝ }
+    ensures { λ r. ⌜ (r ≡ n + 1) × (now (out .exit) ≡ kept (now (out .entry)) n (bytesFor (placeIn place) e)) ⌝ }
 {
     let next = n + 1;
     if n < out.len() / ENTRY_BYTES {
@@ -147,22 +139,23 @@ fn keep(out: &mut [u8], n: usize, place: Place, e: Event) -> usize
 
 fn put(out: &mut [u8], at: usize, place: Place, e: Event)
     requires { ⌜ (at + entryBytes current ≤ length (now out)) × inRow place × small e ⌝ }
-    ensures { λ r. ⌜ now (out .exit) ≡ sets (now (out .entry)) at (bytesFor place e) ⌝ }
+    ensures { λ r. ⌜ now (out .exit) ≡ sets (now (out .entry)) at (bytesFor (placeIn place) e) ⌝ }
 {
     let bytes = entry_bytes(place, e);
     print::put_bytes(out, at, &bytes);
 }
 
-// Entries: "Six bytes: kind, column (two bytes, high first), id, address, value."
+// Entries: "kind, column (two bytes, high first), id, address, value"; Request 02: "two bytes for S placed after the column".
 fn entry_bytes(place: Place, e: Event) -> [u8; ENTRY_BYTES]
     requires { ⌜ inRow place × small e ⌝ }
-    ensures { λ r. ⌜ r ≡ bytesFor place e ⌝ }
+    ensures { λ r. ⌜ r ≡ bytesFor (placeIn place) e ⌝ }
 {
-    let k = place.column;
     [
         e.kind as u8,
-        (k / 256) as u8,
-        (k % 256) as u8,
+        (place.column / 256) as u8,
+        (place.column % 256) as u8,
+        (place.start / 256) as u8,
+        (place.start % 256) as u8,
         e.id as u8,
         e.address as u8,
         e.value as u8,

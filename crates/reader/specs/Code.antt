@@ -1,14 +1,15 @@
 -- What the code's state is to protocol's reader, for the contracts of this crate: nothing here is needed to read what read promises.
 -- Every value of the code's types is some state of the definitions, so no contract asks anything of a state.
 use mathlib.Core.Path.{_≡_}
-use mathlib.Core.Bool.{Bool}
+use mathlib.Core.Bool.{Bool, cond}
 use mathlib.Core.Option.{Option, none, some}
-use Prim.Native.Nat.{ℕ, _+_, _-_, _%_, _<_, min}
+use Prim.Native.Nat.{ℕ, suc, _+_, _-_, _%_, _<_, min}
 use Rattle.protocol.specs.Limits.{idCount, lockFirst, lockLast, registerCount}
 use Rattle.protocol.specs.Bits.{bitOf}
-use Rattle.protocol.specs.Rest.{Timed, power, rest, frame}
+use Rattle.protocol.specs.Rest.{Timed, power, rest, frame, framed}
 use Rattle.protocol.specs.Machine.{Turn}
 use Rattle.protocol.specs.Entries as entries
+use Rattle.protocol.specs.Entries.{Place, onward}
 use Rattle.protocol.specs.Reader as protocol
 use Rattle.protocol.specs.Reader.{ones, upto, mixed, deaf, locks, head, askR, askW, byteS, reads, writes, askP, Look, begun, Step, stepped, step}
 use Rattle.machine.specs.Zeros.{timed, judgedAt}
@@ -67,6 +68,13 @@ stateBy phase zeros b = timed zeros (formBy phase b)
 unfoldable pub stateOf : Reader → Timed protocol.Phase
 stateOf r = stateBy (r .phase) (r .zeros) (r .body)
 
+-- Where in the row it stands, at a column: out of a frame the S that it holds does not matter.
+abbrev pub placeBy : Timed protocol.Phase → (start column : ℕ) → Place
+placeBy s start column = record { column = column; start = cond (framed s) start column }
+
+abbrev pub placeOf : Reader → (column : ℕ) → Place
+placeOf r column = placeBy (stateOf r) (r .body .start) column
+
 -- An event by its fields; kind 0 is none.
 abbrev pub said : (kind id address value : ℕ) → Event
 said kind id address value = record { kind = kind; id = id; address = address; value = value }
@@ -99,25 +107,32 @@ seen l = seenBy (l .next) (eventOf (l .says))
 -- What a step makes of a state, with the event as the code has it: ..
 pub record Moved : Type 0 where
   pub state : Timed protocol.Phase
+  pub place : Place
   pub event : Event
 
--- .. protocol's step ..
-unfoldable pub moved : Step → Moved
-moved s = record { state = s .state; event = eventOf (s .says) }
+-- .. protocol's step at a place ..
+unfoldable pub moved : Step → Place → Moved
+moved s p = record { state = s .state; place = onward (s .state) p; event = eventOf (s .says) }
 
--- .. and the step that the code made.
-unfoldable pub after : Stepped → Moved
-after r = record { state = stateOf (r .next); event = r .event }
+-- .. and the step that the code made in a column.
+unfoldable pub after : (column : ℕ) → Stepped → Moved
+after column r = record { state = stateOf (r .next); place = placeOf (r .next) (suc column); event = r .event }
 
 -- A step of its parts: every field of its event is a byte.
 pub record Made (phase : Phase) (zeros : ℕ) (b : Body) (e : Event) (r : Stepped) : Type 0 where
   pub made : r ≡ record { next = record { phase = phase; zeros = zeros; body = b }; event = e }
   pub bytes : small e
 
--- What a phase's function promises, of a column that is not the fourteenth zero ..
-pub record Meets (phase : Phase) (zeros : ℕ) (b : Body) (m x : Bool) (r : Stepped) : Type 0 where
-  pub meets : after r ≡ moved (stepped (judgedAt begun (stateBy phase zeros b) m) m x)
+-- What a phase's function promises, of a column that is not the fourteenth zero: at rest it has to know which ..
+pub record MeetsAt (column : ℕ) (phase : Phase) (zeros : ℕ) (b : Body) (m x : Bool) (r : Stepped) : Type 0 where
+  pub meets :
+      after column r
+      ≡ moved (stepped (judgedAt begun (stateBy phase zeros b) m) m x) (placeBy (stateBy phase zeros b) (b .start) column)
   pub bytes : small (r .event)
+
+-- .. and in a frame any will do ..
+abbrev pub Meets : Phase → (zeros : ℕ) → Body → (m x : Bool) → Stepped → Type 0
+Meets phase zeros b m x r = (column : ℕ) → MeetsAt column phase zeros b m x r
 
 -- .. and the event that the fourteenth gives.
 abbrev pub ended : Timed protocol.Phase → Event
@@ -125,7 +140,7 @@ ended (power z) = nothing
 ended rest = nothing
 ended (frame z p) = ending
 
--- What step promises: protocol's step.
-pub record Steps (s : Timed protocol.Phase) (m x : Bool) (r : Stepped) : Type 0 where
-  pub meets : after r ≡ moved (step s m x)
+-- What step promises at a place: protocol's step.
+pub record Steps (s : Timed protocol.Phase) (p : Place) (m x : Bool) (r : Stepped) : Type 0 where
+  pub meets : after (p .column) r ≡ moved (step s m x) p
   pub bytes : small (r .event)

@@ -7,7 +7,7 @@ mod made;
 
 ghost use mathlib.Core.Path.{_≡_};
 ghost use Rattle.protocol.specs.Rest.{powerOn};
-ghost use Rattle.reader.specs.Code.{formBy, stateOf, Made, Meets, ended, Steps};
+ghost use Rattle.reader.specs.Code.{formBy, stateOf, placeOf, Made, MeetsAt, ended, Steps};
 use access::ask_r;
 use access::ask_w;
 use data::ask_p;
@@ -22,9 +22,8 @@ use machine::REST;
 use made::go;
 use made::rests;
 
+// Rest stands far from Ones: one and two apart the compiler adds S to a byte of the phase, and on idle rows each column waits for the last.
 pub enum Phase {
-    Power,
-    Rest,
     Deaf,
     // Up to the last lock column: ones alone so far, ones and then zeros, any other pattern.
     Ones,
@@ -39,10 +38,14 @@ pub enum Phase {
     Reads,
     Writes,
     AskP,
+    Power,
+    Rest,
 }
 
 // Every field is 64 bits wide, a flag 0 or 1, so that each keeps a register of its own.
 pub struct Body {
+    // The column of S.
+    pub start: usize,
     // The header's columns before this one, or once a lock was 0 those of the locks; in a byte, the bits after this one.
     pub place: u64,
     // The bits so far, the newest lowest.
@@ -83,6 +86,7 @@ impl Reader {
         ensures { λ r. ⌜ stateOf r ≡ powerOn ⌝ }
     {
         let body = Body {
+            start: 0,
             place: 0,
             word: 0,
             count: 0,
@@ -99,14 +103,14 @@ impl Reader {
     }
 
     // "The fourteenth zero is judged before any other meaning of its column".
-    pub fn step(self, m: bool, x: bool) -> Stepped
-        ensures { λ r. ⌜ Steps (stateOf self) m x r ⌝ }
+    pub fn step(self, column: usize, m: bool, x: bool) -> Stepped
+        ensures { λ r. ⌜ Steps (stateOf self) (placeOf self column) m x r ⌝ }
     {
         let phase = self.phase;
         let body = self.body;
         let zeros = machine::counted(self.zeros, m);
         if zeros < REST {
-            goes_on(phase, zeros, body, m, x)
+            goes_on(phase, zeros, body, column, m, x)
         } else {
             fourteenth(phase, body)
         }
@@ -125,12 +129,12 @@ fn fourteenth(phase: Phase, body: Body) -> Stepped
 }
 
 // A column that is no fourteenth zero.
-fn goes_on(phase: Phase, zeros: u64, body: Body, m: bool, x: bool) -> Stepped
-    ensures { λ r. ⌜ Meets phase zeros body m x r ⌝ }
+fn goes_on(phase: Phase, zeros: u64, body: Body, column: usize, m: bool, x: bool) -> Stepped
+    ensures { λ r. ⌜ MeetsAt column phase zeros body m x r ⌝ }
 {
     match phase {
         Phase::Power => go(Phase::Power, zeros, body),
-        Phase::Rest => rest(zeros, body, m, x),
+        Phase::Rest => rest(zeros, body, column, m, x),
         Phase::Deaf => go(Phase::Deaf, zeros, body),
         Phase::Ones => ones(zeros, body, m, x),
         Phase::Upto => upto(zeros, body, m, x),
@@ -145,12 +149,13 @@ fn goes_on(phase: Phase, zeros: u64, body: Body, m: bool, x: bool) -> Stepped
     }
 }
 
-// Start: "The first 1 after rest is the start bit S". What `place` and `word` hold at rest does not matter: both are set in any case, so
-// that the compiler makes no branch of it.
-fn rest(zeros: u64, body: Body, m: bool, x: bool) -> Stepped
-    ensures { λ r. ⌜ Meets Phase.Rest zeros body m x r ⌝ }
+// Start: "The first 1 after rest is the start bit S". What `start`, `place` and `word` hold at rest does not matter: all are set in any
+// case, so that the compiler makes no branch of it.
+fn rest(zeros: u64, body: Body, column: usize, m: bool, x: bool) -> Stepped
+    ensures { λ r. ⌜ MeetsAt column Phase.Rest zeros body m x r ⌝ }
 {
     let mut n = body;
+    n.start = column;
     n.place = 0;
     n.word = 0;
     if m {

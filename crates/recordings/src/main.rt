@@ -1,4 +1,4 @@
-// Reads small recordings, each kind of entry in at least two of them, and prints their lists: kind, column, id, address, value. A
+// Reads small recordings, each kind of entry in at least two of them, and prints their lists: kind, column, start, id, address, value. A
 // recording is a built request of 64 columns and one slave's answers to it, with a bit or two of either row flipped.
 //
 //   column  0 .. 13  14  15 .. 23      24 .. 29   30  31  32  33 .. 40  41 .. 44  45
@@ -227,6 +227,8 @@ fn entry(e: Fields) {
     number(e.kind as u64);
     io::write_all(STDOUT_FILENO, b" ");
     number(e.column as u64);
+    io::write_all(STDOUT_FILENO, b" ");
+    number(e.start as u64);
     io::write_all(STDOUT_FILENO, b" ");
     number(e.id as u64);
     io::write_all(STDOUT_FILENO, b" ");

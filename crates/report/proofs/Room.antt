@@ -36,7 +36,7 @@ lines-short limit (e ∷ es) l h =
     rw length-append
     (omega (
       arith,
-      line-short e (omega arith) (omega arith) (omega arith) (omega arith),
+      line-short e (omega arith) (omega arith) (omega arith) (omega arith) (omega arith),
       lines-short limit es l (h .1),
     ))
 

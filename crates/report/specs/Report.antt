@@ -1,7 +1,7 @@
 -- What the indexing program prints for a text of two rows and an opening column. The texts themselves are protocol's (specs/Text).
 use mathlib.Core.List.{List, [], _∷_, _++_}
 use mathlib.Core.Option.{Option, none, some, Option·getD}
-use Prim.Native.Nat.{ℕ}
+use Prim.Native.Nat.{ℕ, _*_}
 use lib.Dec.{ltb}
 use lib.ListN.{length}
 use Rattle.protocol.specs.Limits.{columnLimit}
@@ -16,7 +16,7 @@ use Rattle.rows_text.specs.RowsText.{badForm}
 
 -- Room for any report.
 abbrev pub reportRoom : ℕ
-reportRoom = 131072
+reportRoom = 34 * columnLimit
 
 -- Numbers in decimal, each behind its TAB.
 unfoldable pub fields : (numbers : List ℕ) → List ℕ

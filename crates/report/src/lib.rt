@@ -15,8 +15,8 @@ use job::Detail;
 use job::ENTRY_BYTES;
 use job::Outcome;
 
-// Room for any report: a header, and for each of 4,096 columns a line of at most 27 bytes.
-pub const REPORT_ROOM: usize = 131072;
+// Room for any report: for each column a line of at most 33 bytes, and in what is over the header.
+pub const REPORT_ROOM: usize = 34 * COLUMN_LIMIT;
 
 // "At most one entry falls in a column".
 const LIST_LIMIT: usize = ENTRY_BYTES * COLUMN_LIMIT;

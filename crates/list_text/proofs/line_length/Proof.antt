@@ -14,13 +14,13 @@ use Rattle.list_text.proofs.line_length.Tie as tie
 returns : tie.Need-returns
 unfolding nameOf names
 returns c =
-    let values = c .before .before in
+    let values = c .before .before .before in
     let addresses = values .before .before .before in
     let ids = addresses .before .before .before in
     let e = ids .before .before .before .args .e in
-    let id = ap (λ (b : Bool). length (field b (e .id))) (ids .before .before .has-field .ensures) in
-    let address = ap (λ (b : Bool). length (field b (e .address))) (addresses .before .before .has-field2 .ensures) in
-    let value = ap (λ (b : Bool). length (field b (e .value))) (values .before .before .has-field3 .ensures) in
+    let id = ap (λ (b : Bool). length (field b (e .id))) (ids .has-field .ensures) in
+    let address = ap (λ (b : Bool). length (field b (e .address))) (addresses .has-field2 .ensures) in
+    let value = ap (λ (b : Bool). length (field b (e .value))) (values .has-field3 .ensures) in
     let all = line-length (entryOf e) in
     omega arith
 
@@ -29,6 +29,9 @@ line-length-spec =
     tie.close
     (tie.spec
     (λ c κs. search needs)
+    (λ c κs. search needs)
+    (λ c. search needs)
+    (λ c κs. search needs)
     (λ c. search needs)
     (λ c κs. search needs)
     (λ c κs. search needs)
@@ -36,7 +39,6 @@ line-length-spec =
     (λ c κs. search needs)
     (λ c κs. search needs)
     (λ c. search needs)
-    (λ c κs. search needs)
     (λ c κs. search needs)
     (λ c κs. search needs)
     (λ c. search needs)

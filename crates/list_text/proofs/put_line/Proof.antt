@@ -22,15 +22,15 @@ LeftOf s f p now =
 put-name-requires : tie.Need-put-name-requires
 unfolding nameOf
 put-name-requires c κs =
-    let start = c .before .before in
-    (start .pre .0, omega (arith, line-length (entryOf (start .args .e))))
+    let begun = c .before .before in
+    (begun .pre .0, omega (arith, line-length (entryOf (begun .args .e))))
 
-abbrev start : tie.After-put-name → tie.Start
-start c = c .before .before .before
+abbrev begin : tie.After-put-name → tie.Start
+begin c = c .before .before .before
 
-behind-name : (c : tie.After-put-name) → LeftOf (start c) Field.kind (c .put-name .result) (c .put-name .last .0)
+behind-name : (c : tie.After-put-name) → LeftOf (begin c) Field.kind (c .put-name .result) (c .put-name .last .0)
 unfolding entryLine nameOf
-behind-name c = left-behind _ (left-all (start c .pre .1)) (c .put-name .ensures)
+behind-name c = left-behind _ (left-all (begin c .pre .1)) (c .put-name .ensures)
 
 put-field-requires : tie.Need-put-field-requires
 put-field-requires c κs = field-room _ Field.column _ refl (behind-name (c .before .before .before))
@@ -39,44 +39,57 @@ abbrev name : tie.After-put-field → tie.After-put-name
 name c = c .before .before .before .before
 
 behind-column : (c : tie.After-put-field)
-    → LeftOf (start (name c)) Field.column (c .put-field .result) (c .put-field .last .0)
+    → LeftOf (begin (name c)) Field.column (c .put-field .result) (c .put-field .last .0)
 behind-column c = field-behind _ Field.column _ refl (behind-name (name c)) (c .put-field .ensures)
 
 put-field-requires-2 : tie.Need-put-field-requires-2
-unfolding names
-put-field-requires-2 c κs = field-room _ Field.id _ (c .before .has-field .ensures) (behind-column (c .before .before .before .before .before))
+put-field-requires-2 c κs = field-room _ Field.start _ refl (behind-column (c .before .before .before))
 
 abbrev column : tie.After-put-field2 → tie.After-put-field
-column c = c .before .before .before .before .before .before
+column c = c .before .before .before .before
 
-behind-id : (c : tie.After-put-field2)
-    → LeftOf (start (name (column c))) Field.id (c .put-field2 .result) (c .put-field2 .last .0)
-unfolding names
-behind-id c = field-behind _ Field.id _ (c .before .before .has-field .ensures) (behind-column (column c)) (c .put-field2 .ensures)
+behind-start : (c : tie.After-put-field2)
+    → LeftOf (begin (name (column c))) Field.start (c .put-field2 .result) (c .put-field2 .last .0)
+behind-start c = field-behind _ Field.start _ refl (behind-column (column c)) (c .put-field2 .ensures)
 
 put-field-requires-3 : tie.Need-put-field-requires-3
 unfolding names
-put-field-requires-3 c κs = field-room _ Field.address _ (c .before .has-field2 .ensures) (behind-id (c .before .before .before .before .before))
+put-field-requires-3 c κs = field-room _ Field.id _ (c .before .has-field .ensures) (behind-start (c .before .before .before .before .before))
 
-abbrev id : tie.After-put-field3 → tie.After-put-field2
-id c = c .before .before .before .before .before .before
+abbrev start : tie.After-put-field3 → tie.After-put-field2
+start c = c .before .before .before .before .before .before
 
-behind-address : (c : tie.After-put-field3)
-    → LeftOf (start (name (column (id c)))) Field.address (c .put-field3 .result) (c .put-field3 .last .0)
+behind-id : (c : tie.After-put-field3)
+    → LeftOf (begin (name (column (start c)))) Field.id (c .put-field3 .result) (c .put-field3 .last .0)
 unfolding names
-behind-address c = field-behind _ Field.address _ (c .before .before .has-field2 .ensures) (behind-id (id c)) (c .put-field3 .ensures)
+behind-id c = field-behind _ Field.id _ (c .before .before .has-field .ensures) (behind-start (start c)) (c .put-field3 .ensures)
 
 put-field-requires-4 : tie.Need-put-field-requires-4
 unfolding names
-put-field-requires-4 c κs = field-room _ Field.value _ (c .before .has-field3 .ensures) (behind-address (c .before .before .before .before .before))
+put-field-requires-4 c κs = field-room _ Field.address _ (c .before .has-field2 .ensures) (behind-id (c .before .before .before .before .before))
 
-abbrev address : tie.After-put-field4 → tie.After-put-field3
+abbrev id : tie.After-put-field4 → tie.After-put-field3
+id c = c .before .before .before .before .before .before
+
+behind-address : (c : tie.After-put-field4)
+    → LeftOf (begin (name (column (start (id c))))) Field.address (c .put-field4 .result) (c .put-field4 .last .0)
+unfolding names
+behind-address c = field-behind _ Field.address _ (c .before .before .has-field2 .ensures) (behind-id (id c)) (c .put-field4 .ensures)
+
+has-field-requires-3 : tie.Need-has-field-requires-3
+has-field-requires-3 c κs = (begin (name (column (start (id (c .before .before .before))))) .pre .0, omega arith)
+
+put-field-requires-5 : tie.Need-put-field-requires-5
+unfolding names
+put-field-requires-5 c κs = field-room _ Field.value _ (c .before .has-field3 .ensures) (behind-address (c .before .before .before .before .before))
+
+abbrev address : tie.After-put-field5 → tie.After-put-field4
 address c = c .before .before .before .before .before .before
 
-behind-value : (c : tie.After-put-field4)
-    → LeftOf (start (name (column (id (address c))))) Field.value (c .put-field4 .result) (c .put-field4 .last .0)
+behind-value : (c : tie.After-put-field5)
+    → LeftOf (begin (name (column (start (id (address c)))))) Field.value (c .put-field5 .result) (c .put-field5 .last .0)
 unfolding names
-behind-value c = field-behind _ Field.value _ (c .before .before .has-field3 .ensures) (behind-address (address c)) (c .put-field4 .ensures)
+behind-value c = field-behind _ Field.value _ (c .before .before .has-field3 .ensures) (behind-address (address c)) (c .put-field5 .ensures)
 
 slice-write-out : tie.Need-slice-write-out
 unfolding cells
@@ -87,7 +100,7 @@ unfolding cells
 add-result c =
     let left = behind-value (c .before .before) in
     let same = left-same left in
-    let good = start (name (column (id (address (c .before .before))))) .good in
+    let good = begin (name (column (start (id (address (c .before .before)))))) .good in
     search needs
 
 same-length : tie.Need-same-length
@@ -102,8 +115,6 @@ put-line-spec =
     (tie.spec
     put-name-requires
     put-field-requires
-    (λ c κs. search needs)
-    (λ c. search needs)
     put-field-requires-2
     (λ c κs. search needs)
     (λ c. search needs)
@@ -111,6 +122,9 @@ put-line-spec =
     (λ c κs. search needs)
     (λ c. search needs)
     put-field-requires-4
+    has-field-requires-3
+    (λ c. search needs)
+    put-field-requires-5
     slice-write-out
     add-result
     same-length

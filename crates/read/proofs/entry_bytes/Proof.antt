@@ -12,4 +12,4 @@ unfolding bytesFor fieldBytes inBytes
 returns c = refl
 
 pub entry-bytes-spec : {M : Type 1} → statement M
-entry-bytes-spec = tie.close (tie.spec (λ c. search needs) (λ c. search needs) (λ c. search needs) (λ c. search needs) (λ c. search needs) (λ c. search needs) returns)
+entry-bytes-spec = tie.close (tie.spec (λ c. search needs) (λ c. search needs) (λ c. search needs) (λ c. search needs) (λ c. search needs) (λ c. search needs) (λ c. search needs) (λ c. search needs) returns)

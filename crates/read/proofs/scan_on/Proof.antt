@@ -9,47 +9,56 @@ use lib.ListN.{length, drop}
 use Rattle.protocol.specs.Bits.{rowOf}
 use Rattle.protocol.specs.Entries.{Place}
 use Rattle.protocol.specs.Reader.{columns}
-use Rattle.reader.specs.Code.{stateOf}
-use Rattle.read.specs.Parts.{placeOf, bytesFor, kept, Reached, reached}
+use Rattle.reader.specs.Code.{stateOf, placeOf}
+use Rattle.read.specs.Parts.{bytesFor, kept, Reached, reached}
 use Rattle.read.proofs.Kept.{length-all}
-use Rattle.read.proofs.Left.{turn-none, turn-some, none-left}
+use Rattle.read.proofs.Left.{still-early, early-enough, turn-none, turn-some, none-left}
 use Rattle.read.proofs.scan_on.Statement.{statement}
 use Rattle.read.proofs.scan_on.Tie as tie
 
 abbrev Inv-loop : tie.InvT-loop
-Inv-loop cdm cds out₀ reader₀ place₀ n₀ i₀ out reader place n i =
-    (i ≤ length cdm) × (place .column ≡ place₀ .column + i) × (n ≤ place .column)
-    × (reached (stateOf reader) (placeOf place) n out (drop i (columns (rowOf cdm) (rowOf cds)))
-    ≡ reached (stateOf reader₀) (placeOf place₀) n₀ out₀ (columns (rowOf cdm) (rowOf cds)))
+Inv-loop cdm cds out₀ reader₀ column₀ n₀ i₀ out reader column n i =
+    (i ≤ length cdm) × (column ≡ column₀ + i) × (n ≤ column) × (placeOf reader column .start ≤ column)
+    × (reached (stateOf reader) (placeOf reader column) n out (drop i (columns (rowOf cdm) (rowOf cds)))
+    ≡ reached (stateOf reader₀) (placeOf reader₀ column₀) n₀ out₀ (columns (rowOf cdm) (rowOf cds)))
 
 abbrev μ-loop : tie.MeasureT-loop
-μ-loop cdm cds out₀ reader₀ place₀ n₀ i₀ out reader place n i = length cdm - i
+μ-loop cdm cds out₀ reader₀ column₀ n₀ i₀ out reader column n i = length cdm - i
 
 loop-holds : tie.Need-loop-holds Inv-loop μ-loop
-loop-holds c = (search needs, omega arith, search needs, refl)
+loop-holds c = (search needs, omega arith, search needs, search needs, refl)
+
+keep-requires : tie.Need-keep-requires Inv-loop μ-loop
+keep-requires c κs =
+    let stepped = c .before .before .before .before in
+    let turning = stepped .before .before .before in
+    let l = turning .before .loop in
+    let a = turning .before .before .before .before .before .before .args in
+    let same = turning .before .before .before .before .before .before .pre .0 in
+    let early = early-enough (a .cdm .now) (a .cds .now) (l .i) (l .reader) (l .column) (stepped .step .result) (turning .loop-test .taken) same (stepped .step .ensures) (l .n) (l .out) (c .before .if1 .taken) (l .inv .3) in
+    (search needs, (search needs, early), stepped .step .ensures .bytes)
 
 loop-again : tie.Need-loop-again Inv-loop μ-loop
 loop-again c =
-    let stepped = c .before .before .before .before .before in
+    let stepped = c .before .before .before .before in
     let turning = stepped .before .before .before in
     let l = turning .before .loop in
-    let a = turning .before .before .before .before .before .before .before .args in
+    let a = turning .before .before .before .before .before .before .args in
     let r = stepped .step .result in
-    let joined = c .before .before .if1 in
-    let same = turning .before .before .before .before .before .before .before .pre .0 in
-    let place = c .before .onward .result in
-    let on = c .before .onward .ensures in
-    let moved : place .column ≡ suc (l .place .column) = ap (λ (p : Place). p .column) on in
+    let joined = c .before .if1 in
+    let same = turning .before .before .before .before .before .before .pre .0 in
+    let early = still-early (a .cdm .now) (a .cds .now) (l .i) (l .reader) (l .column) r (turning .loop-test .taken) same (stepped .step .ensures) (l .n) (l .out) (l .inv .3) in
     ⊎-elim
     (λ w.
-    let up : joined .n ≡ l .n + 1 = cc in
-    let stored : joined .out ≡ kept (l .out) (l .n) (bytesFor (l .place) (r .event)) = cc in (
+    let up : joined .n ≡ l .n + 1 = w .6 ∙ w .2 .ensures .0 in
+    let stored : joined .out ≡ kept (l .out) (l .n) (bytesFor (record { column = l .column; start = l .reader .body .start }) (r .event)) = w .5 ∙ w .2 .ensures .1 in (
       search needs,
       omega arith,
       omega arith,
+      early,
       rw (up, stored)
-          (sym (turn-some (a .cdm .now) (a .cds .now) (l .i) (stateOf (l .reader)) r (turning .loop-test .taken) same (stepped .step .ensures) (l .place) place (l .n) (l .out) on (search needs))
-          ∙ l .inv .3),
+          (sym (turn-some (a .cdm .now) (a .cds .now) (l .i) (l .reader) (l .column) r (turning .loop-test .taken) same (stepped .step .ensures) (l .n) (l .out) (search needs))
+          ∙ l .inv .4),
     ))
     (λ w.
     let silent : joined .n ≡ l .n = cc in
@@ -57,21 +66,22 @@ loop-again c =
       search needs,
       omega arith,
       omega arith,
+      early,
       rw (silent, stays)
-          (sym (turn-none (a .cdm .now) (a .cds .now) (l .i) (stateOf (l .reader)) r (turning .loop-test .taken) same (stepped .step .ensures) (l .place) place (l .n) (l .out) on (search needs))
-          ∙ l .inv .3),
+          (sym (turn-none (a .cdm .now) (a .cds .now) (l .i) (l .reader) (l .column) r (turning .loop-test .taken) same (stepped .step .ensures) (l .n) (l .out) (search needs))
+          ∙ l .inv .4),
     ))
     (joined .came)
 
 same-length : tie.Need-same-length Inv-loop μ-loop
 unfolding reached
 same-length c =
-    sym (length-all (c .before .loop .out) (c .before .loop .n) _) ∙ ap (λ (r : Reached). length (r .buffer)) (c .before .loop .inv .3) ∙ length-all _ _ _
+    sym (length-all (c .before .loop .out) (c .before .loop .n) _) ∙ ap (λ (r : Reached). length (r .buffer)) (c .before .loop .inv .4) ∙ length-all _ _ _
 
 returns : tie.Need-returns Inv-loop μ-loop
 returns c =
     let l = c .before .loop in
-    sym (none-left _ _ (l .i) (stateOf (l .reader)) (placeOf (l .place)) (l .n) (l .out) (c .loop-test .left)) ∙ l .inv .3
+    sym (none-left _ _ (l .i) (stateOf (l .reader)) (placeOf (l .reader) (l .column)) (l .n) (l .out) (c .loop-test .left)) ∙ l .inv .4
 
 pub scan-on-spec : {M : Type 1} → statement M
 scan-on-spec =
@@ -83,8 +93,8 @@ scan-on-spec =
     (λ c. search needs)
     (λ c. search needs)
     (λ c κs. search needs)
-    (λ c κs. search needs)
-    (λ c κs. search needs)
+    keep-requires
+    (λ c. search needs)
     (λ c. search needs)
     (λ c. search needs)
     loop-again

@@ -7,7 +7,7 @@ use Rattle.reader.proofs.access.ask_w.Statement.{statement}
 use Rattle.reader.proofs.access.ask_w.Tie as tie
 
 returns : tie.Need-returns
-returns c = looked (c .gives .ensures) refl refl (search (w-pair, needs))
+returns c = looked (c .gives .ensures) refl refl refl (search (w-pair, needs))
 
 returns-2 : tie.Need-returns-2
 returns-2 c = c .accepted .ensures

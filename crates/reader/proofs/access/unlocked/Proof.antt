@@ -7,10 +7,10 @@ use Rattle.reader.proofs.access.unlocked.Statement.{statement}
 use Rattle.reader.proofs.access.unlocked.Tie as tie
 
 returns : tie.Need-returns
-returns c = looked (c .gives .ensures) refl refl (search (w-absent, needs))
+returns c = looked (c .gives .ensures) refl refl refl (search (w-absent, needs))
 
 returns-2 : tie.Need-returns-2
-returns-2 c = looked (c .gives2 .ensures) refl refl (search (w-unasked, needs))
+returns-2 c = looked (c .gives2 .ensures) refl refl refl (search (w-unasked, needs))
 
 pub unlocked-spec : {M : Type 1} → statement M
 unlocked-spec =

@@ -7,16 +7,16 @@ use Rattle.reader.proofs.data.byte_s.Statement.{statement}
 use Rattle.reader.proofs.data.byte_s.Tie as tie
 
 returns : tie.Need-returns
-returns c = looked (c .go .ensures) refl refl (search (s-writes, needs))
+returns c = looked (c .go .ensures) refl refl refl (search (s-writes, needs))
 
 returns-2 : tie.Need-returns-2
-returns-2 c = looked (c .go2 .ensures) refl refl (search (s-reads, needs))
+returns-2 c = looked (c .go2 .ensures) refl refl refl (search (s-reads, needs))
 
 returns-3 : tie.Need-returns-3
-returns-3 c = looked (c .gives .ensures) refl refl (search (s-mute, needs))
+returns-3 c = looked (c .gives .ensures) refl refl refl (search (s-mute, needs))
 
 returns-4 : tie.Need-returns-4
-returns-4 c = looked (c .go3 .ensures) refl refl (search (s-zero, needs))
+returns-4 c = looked (c .go3 .ensures) refl refl refl (search (s-zero, needs))
 
 pub byte-s-spec : {M : Type 1} → statement M
 byte-s-spec =

@@ -7,13 +7,13 @@ use Rattle.reader.proofs.data.reads.Statement.{statement}
 use Rattle.reader.proofs.data.reads.Tie as tie
 
 returns : tie.Need-returns
-returns c = looked (c .gives .ensures) refl refl (search (read-good, needs))
+returns c = looked (c .gives .ensures) refl refl refl (search (read-good, needs))
 
 returns-2 : tie.Need-returns-2
-returns-2 c = looked (c .gives2 .ensures) refl refl (search (read-bad, needs))
+returns-2 c = looked (c .gives2 .ensures) refl refl refl (search (read-bad, needs))
 
 returns-3 : tie.Need-returns-3
-returns-3 c = looked (c .go .ensures) refl refl (search (read-on, needs))
+returns-3 c = looked (c .go .ensures) refl refl refl (search (read-on, needs))
 
 pub reads-spec : {M : Type 1} → statement M
 reads-spec =

@@ -7,16 +7,16 @@ use Rattle.reader.proofs.data.writes.Statement.{statement}
 use Rattle.reader.proofs.data.writes.Tie as tie
 
 returns : tie.Need-returns
-returns c = looked (c .gives .ensures) refl refl (search (write-good, needs))
+returns c = looked (c .gives .ensures) refl refl refl (search (write-good, needs))
 
 returns-2 : tie.Need-returns-2
-returns-2 c = looked (c .gives2 .ensures) refl refl (search (write-echo, needs))
+returns-2 c = looked (c .gives2 .ensures) refl refl refl (search (write-echo, needs))
 
 returns-3 : tie.Need-returns-3
-returns-3 c = looked (c .gives3 .ensures) refl refl (search (write-bad, needs))
+returns-3 c = looked (c .gives3 .ensures) refl refl refl (search (write-bad, needs))
 
 returns-4 : tie.Need-returns-4
-returns-4 c = looked (c .go .ensures) refl refl (search (write-on, needs))
+returns-4 c = looked (c .go .ensures) refl refl refl (search (write-on, needs))
 
 pub writes-spec : {M : Type 1} → statement M
 writes-spec =

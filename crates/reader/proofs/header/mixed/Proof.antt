@@ -7,10 +7,10 @@ use Rattle.reader.proofs.header.mixed.Statement.{statement}
 use Rattle.reader.proofs.header.mixed.Tie as tie
 
 returns : tie.Need-returns
-returns c = looked (c .go .ensures) refl refl (search (mixed-on, needs))
+returns c = looked (c .go .ensures) refl refl refl (search (mixed-on, needs))
 
 returns-2 : tie.Need-returns-2
-returns-2 c = looked (c .gives .ensures) refl refl (search (mixed-odd, needs))
+returns-2 c = looked (c .gives .ensures) refl refl refl (search (mixed-odd, needs))
 
 pub mixed-spec : {M : Type 1} → statement M
 mixed-spec =

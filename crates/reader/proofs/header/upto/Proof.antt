@@ -7,16 +7,16 @@ use Rattle.reader.proofs.header.upto.Statement.{statement}
 use Rattle.reader.proofs.header.upto.Tie as tie
 
 returns : tie.Need-returns
-returns c = looked (c .go .ensures) refl refl (search (upto-mixed, needs))
+returns c = looked (c .go .ensures) refl refl refl (search (upto-mixed, needs))
 
 returns-2 : tie.Need-returns-2
-returns-2 c = looked (c .go2 .ensures) refl refl (search (upto-on, needs))
+returns-2 c = looked (c .go2 .ensures) refl refl refl (search (upto-on, needs))
 
 returns-3 : tie.Need-returns-3
-returns-3 c = looked (c .gives .ensures) refl refl (search (upto-odd, needs))
+returns-3 c = looked (c .gives .ensures) refl refl refl (search (upto-odd, needs))
 
 returns-4 : tie.Need-returns-4
-returns-4 c = looked (c .gives2 .ensures) refl refl (search (upto-lock, needs))
+returns-4 c = looked (c .gives2 .ensures) refl refl refl (search (upto-lock, needs))
 
 pub upto-spec : {M : Type 1} → statement M
 upto-spec =
