@@ -10,8 +10,7 @@ use Rattle.job.specs.Refusals.{Rule, when}
 use Rattle.job.specs.declared.Outcome.{Outcome}
 use Rattle.print.specs.Printed.{Printed}
 
--- "List to text: 12, 9." 12: list length no multiple of 8, "or a kind outside 1 to 16"; 9: "the result needs more room than was lent, and
--- only then".
+-- "List to text: 12, 9." 12: no list, by its length or a kind; 9: "the result needs more room than was lent, and only then".
 unfoldable pub listRefusals : (list : List ℕ) → (room : ℕ) → List Rule
 listRefusals list room =
     when (not (isList current list)) 12 ∷ when (ltb room (length (listText (entriesIn current list)))) 9 ∷ []

@@ -9,7 +9,7 @@ use native.Mathlib.Nat.{le-refl, add-zero, suc-add}
 use native.Mathlib.Omega.{arith}
 use borrow.Author.Tests.{le-leb, lt-leb, ltb-true, ltb-false}
 use lib.Dec.{ltb}
-use lib.ListN.{length, take, drop, replicate, take-append-drop, length-take, length-drop}
+use lib.ListN.{length, take, drop, replicate, take-append-drop, length-drop}
 use lib.Seq.{take-add, drop-drop, length-take-le}
 use Rattle.protocol.specs.Limits.{restZeros}
 use Rattle.protocol.specs.Rest.{Timed, power, rest, frame, framed, powerOn, judge, timer}

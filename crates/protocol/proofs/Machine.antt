@@ -1,5 +1,5 @@
--- What holds of every machine behind the timer, whatever its phases are: a zero brings it nearer to rest, what its phases say it says,
--- and what they keep it keeps. Assumes nothing.
+-- What holds of every machine behind the timer, whatever its phases are: a zero brings it nearer to rest, out of a frame it is silent, what
+-- its phases say it says, and what they keep it keeps. Assumes nothing.
 use mathlib.Core.Path.{_≡_, refl, sym}
 use mathlib.Core.Bool.{Bool, true, false, false≢true}
 use mathlib.Core.List.{List}

@@ -1,7 +1,6 @@
 -- Open at the frame: a reader let in fourteen columns before the start of an entry lists that entry too, and all that follow it. Assumes
 -- nothing.
 use mathlib.Core.Path.{_≡_, sym, _∙_}
-use mathlib.Core.Bool.{Bool}
 use mathlib.Core.List.{List, [], _∷_, _++_}
 use mathlib.Core.Option.{some, Option·some-injective}
 use Prim.Native.Nat.{ℕ, zero, suc, _+_, _-_, _≤_, _<_}

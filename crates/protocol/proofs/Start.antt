@@ -1,8 +1,8 @@
 -- The start of an entry is the S of its frame, as the master row alone has it: fourteen zeros and then a 1, and no fourteen zeros from
 -- there up to the entry. And there is one such column. Assumes nothing.
-use mathlib.Core.Path.{_≡_, refl, sym, ap, _∙_}
+use mathlib.Core.Path.{_≡_, refl, sym, ap}
 use mathlib.Core.Bool.{Bool, true, false, cond, false≢true}
-use mathlib.Core.List.{List, [], _∷_, _++_}
+use mathlib.Core.List.{List, [], _∷_}
 use mathlib.Core.Option.{Option, none, some, Option·none-ne-some, Option·some-injective}
 use Prim.Native.Nat.{ℕ, zero, suc, _+_, _-_, _≤_, _<_}
 use native.Mathlib.Nat.{le-refl, zero-add, suc-add}
@@ -14,7 +14,7 @@ use lib.ListN.{length, drop, getElem?}
 use lib.Seq.{drop-drop}
 use Rattle.protocol.specs.Limits.{restZeros}
 use Rattle.protocol.specs.Rest.{Timed, power, rest, frame, timer, judge}
-use Rattle.protocol.specs.Entries.{Event, Place, opened, onward, Entry}
+use Rattle.protocol.specs.Entries.{Event, Place, opened, onward}
 use Rattle.protocol.specs.Reader.{Phase, look, begun, Column, col, step, entries, listFrom}
 use Rattle.protocol.specs.Late.{Zeros, Started}
 use Rattle.laws.proofs.Every.{Every, IfAny, tested, looked-up}

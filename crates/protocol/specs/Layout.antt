@@ -64,7 +64,7 @@ named e Field.id = table (e .event .kind) .has-id
 named e Field.address = table (e .event .kind) .has-address
 named e Field.value = table (e .event .kind) .has-value
 
--- Text: a field's name in the header, "`event` TAB `column` TAB `id` TAB `address` TAB `value`"; Request 02: "a field `start` there".
+-- Text: a field's name in the header, "`event` TAB `column` TAB `id` TAB `address` TAB `value`"; Request 02: "gains a field `start` there".
 abbrev pub heading : Field → String
 heading Field.kind = "event"
 heading Field.column = "column"
@@ -142,6 +142,6 @@ unfoldable pub allEntries : Layout → List (List ℕ) → Bool
 allEntries l [] = true
 allEntries l (p ∷ ps) = isEntry (entryAt l p 0) && allEntries l ps
 
--- Refusal 12, by Request 02: list length no multiple of 8, "or a kind outside 1 to 16".
+-- Refusal 12. Request 02: "12 tests for a multiple of 8"; "or a kind outside 1 to 16".
 unfoldable pub isList : Layout → (list : List ℕ) → Bool
 isList l list = isWhole (entryBytes l) list && allEntries l (pieces (entryBytes l) list)

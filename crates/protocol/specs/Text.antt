@@ -126,7 +126,7 @@ abbrev pub headings : List Field → List ℕ
 headings [] = feed ∷ []
 headings (f ∷ fs) = tab ∷ bytes (heading f) ++ headings fs
 
--- .. "header `event` TAB `column` TAB `id` TAB `address` TAB `value`", with `start` behind `column`.
+-- .. "header `event` TAB `column` TAB `id` TAB `address` TAB `value`"; Request 02: "gains a field `start` there".
 abbrev pub listHeader : List ℕ
 listHeader = bytes (heading Field.kind) ++ headings numbers
 

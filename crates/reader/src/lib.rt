@@ -22,7 +22,7 @@ use machine::REST;
 use made::go;
 use made::rests;
 
-// Rest stands far from Ones: one and two apart the compiler adds S to a byte of the phase, and on idle rows each column waits for the last.
+// The order is for the compiler: with Rest near Ones it adds S to one byte of a register, and on idle rows each column waits for the last.
 pub enum Phase {
     Deaf,
     // Up to the last lock column: ones alone so far, ones and then zeros, any other pattern.
@@ -44,7 +44,7 @@ pub enum Phase {
 
 // Every field is 64 bits wide, a flag 0 or 1, so that each keeps a register of its own.
 pub struct Body {
-    // The column of S.
+    // The column of S, from S on.
     pub start: usize,
     // The header's columns before this one, or once a lock was 0 those of the locks; in a byte, the bits after this one.
     pub place: u64,

@@ -2,12 +2,11 @@
 -- from the start over all. Assumes nothing.
 use mathlib.Core.Logic.{⊎-elim}
 use mathlib.Core.Path.{_≡_, refl, sym, ap, _∙_}
-use Prim.Native.Nat.{suc, _+_, _-_, _≤_}
+use Prim.Native.Nat.{_+_, _-_, _≤_}
 use native.Mathlib.Omega.{arith}
 use borrow.Author.Needs.{needs}
 use lib.ListN.{length, drop}
 use Rattle.protocol.specs.Bits.{rowOf}
-use Rattle.protocol.specs.Entries.{Place}
 use Rattle.protocol.specs.Reader.{columns}
 use Rattle.reader.specs.Code.{stateOf, placeOf}
 use Rattle.read.specs.Parts.{bytesFor, kept, Reached, reached}
@@ -36,7 +35,7 @@ keep-requires c κs =
     let a = turning .before .before .before .before .before .before .args in
     let same = turning .before .before .before .before .before .before .pre .0 in
     let early = early-enough (a .cdm .now) (a .cds .now) (l .i) (l .reader) (l .column) (stepped .step .result) (turning .loop-test .taken) same (stepped .step .ensures) (l .n) (l .out) (c .before .if1 .taken) (l .inv .3) in
-    (search needs, (search needs, early), stepped .step .ensures .bytes)
+    (search needs, (search needs, omega (arith, early)), stepped .step .ensures .bytes)
 
 loop-again : tie.Need-loop-again Inv-loop μ-loop
 loop-again c =
