@@ -15,9 +15,9 @@ pub fn help() {
         && say(b"first line, 14 a digit not 0 or 1, 15 TAB missing, 16 LF missing, 17 its end\n")
         && say(b"inside a line; then TAB the line, from 1, TAB the byte in that line, from 0.\n")
         && say(b"From an opening column on, entries are listed after the first fourteen\n")
-        && say(b"zeros of the master: nothing before them can be told for certain. These stand\n")
-        && say(b"just before a start bit: opened at an entry's start less 14, the list begins\n")
-        && say(b"with that entry's frame.\n")
+        && say(b"zeros of the master: nothing before them can be told for certain. Fourteen\n")
+        && say(b"zeros stand before every start bit: opened at an entry's start less 14, the\n")
+        && say(b"list begins with that entry's frame.\n")
         && say(b"bin/index ends with status 0 after a list or this text, with 1 after a\n")
         && say(b"refusal, with 2 where there is no answer: standard error then says why.\n");
     if !written {
