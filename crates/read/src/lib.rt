@@ -85,24 +85,24 @@ fn scan(cdm: &[u8], cds: &[u8], opening: usize, out: &mut [u8]) -> usize
     requires { ⌜ Rows (now cdm) (now cds) opening ⌝ }
     ensures { λ r. ⌜ (r ≡ length (listOf opening (now (cdm .entry)) (now (cds .entry)))) × (now (out .exit) ≡ keptAll (now (out .entry)) 0 (listOf opening (now (cdm .entry)) (now (cds .entry)))) ⌝ }
 {
-    let start = Reading {
+    let reading = Reading {
         reader: Reader::new(),
         column: opening,
         count: 0,
     };
-    let end = scan_on(start, &cdm[opening..], &cds[opening..], out);
+    let end = scan_on(reading, &cdm[opening..], &cds[opening..], out);
     end.count
 }
 
 // A reading goes on over a part of the rows, from any state: it puts the entries while there is room, and counts on past it. The one
 // caller of step, which is inlined here.
-fn scan_on(start: Reading, cdm: &[u8], cds: &[u8], out: &mut [u8]) -> Reading
-    requires { ⌜ (length (now cdm) ≡ length (now cds)) × (start .column + length (now cdm) ≤ columnLimit) × (start .count ≤ start .column) × (placeOf (start .reader) (start .column) .start ≤ start .column) ⌝ }
-    ensures { λ r. ⌜ reachedBy r (now (out .exit)) ≡ reached (stateOf (start .reader)) (placeOf (start .reader) (start .column)) (start .count) (now (out .entry)) (columns (rowOf (now (cdm .entry))) (rowOf (now (cds .entry)))) ⌝ }
+fn scan_on(reading: Reading, cdm: &[u8], cds: &[u8], out: &mut [u8]) -> Reading
+    requires { ⌜ (length (now cdm) ≡ length (now cds)) × (reading .column + length (now cdm) ≤ columnLimit) × (reading .count ≤ reading .column) × (placeOf (reading .reader) (reading .column) .start ≤ reading .column) ⌝ }
+    ensures { λ r. ⌜ reachedBy r (now (out .exit)) ≡ reached (stateOf (reading .reader)) (placeOf (reading .reader) (reading .column)) (reading .count) (now (out .entry)) (columns (rowOf (now (cdm .entry))) (rowOf (now (cds .entry)))) ⌝ }
 {
-    let mut reader = start.reader;
-    let mut column = start.column;
-    let mut n = start.count;
+    let mut reader = reading.reader;
+    let mut column = reading.column;
+    let mut n = reading.count;
     let mut i = 0;
     while i < cdm.len() {
         let t = reader.step(column, cdm[i] == 1, cds[i] == 1);
