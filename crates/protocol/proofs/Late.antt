@@ -71,7 +71,7 @@ open-after s p [] h = h
 open-after s p (col m x ∷ cs) h = open-after (step s m x .state) _ cs (open-on (step s m x .state) p)
 
 -- The entries of columns i to j - 1.
-abbrev Within : (i j : ℕ) → Entry → Type 0
+abbrev pub Within : (i j : ℕ) → Entry → Type 0
 Within i j e = (i ≤ e .place .column) × (e .place .column < j)
 
 within : (s : Timed Phase) (p : Place) (cs : List Column) (i j : ℕ) → i ≤ p .column → p .column + length cs ≤ j

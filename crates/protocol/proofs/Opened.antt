@@ -14,12 +14,12 @@ use Rattle.protocol.specs.Reader.{Column, listFrom}
 use Rattle.protocol.specs.Late.{FourteenAt, Started, OpenedAt}
 use Rattle.laws.proofs.Every.{Every}
 use Rattle.laws.proofs.Places.{every-at}
-use Rattle.protocol.proofs.Late.{masters, before, after-rest, all-before, cut-at-rest, from-first}
+use Rattle.protocol.proofs.Late.{masters, Within, before, after-rest, all-before, cut-at-rest, from-first}
 use Rattle.protocol.proofs.Start.{starts}
 
 -- An entry from column j on is none of those before it.
-not-before : (k j i : ℕ) (es fs : List Entry) (e : Entry) → Every (λ f. (k ≤ f .place .column) × (f .place .column < j)) es
-    → getElem? (es ++ fs) i ≡ some e → j ≤ e .place .column → length es ≤ i
+not-before : (k j i : ℕ) (es fs : List Entry) (e : Entry) → Every (Within k j) es → getElem? (es ++ fs) i ≡ some e
+    → j ≤ e .place .column → length es ≤ i
 not-before k j i [] fs e q f h = omega arith
 not-before k j zero (d ∷ es) fs e q f h =
     let same : d ≡ e = Option·some-injective d e f in absurd (omega (arith, rw same at (q .0)))

@@ -104,23 +104,10 @@ module _ (s : Timed Phase) (m x : Bool) (p : protocol.Place) (n : ℕ) (out : Li
       more : (k : ℕ) → n + suc k ≡ n + 1 + k
       more k = omega arith
 
--- The rows from column i on, by a step of the code in a column of the row.
-module _ (cdm cds : List ℕ) (i : ℕ) (reader : code.Reader) (column : ℕ) (r : Stepped) (h : i < length cdm) (same : length cdm ≡ length cds)
-    (steps : Steps (stateOf reader) (placeOf reader column) (bitOf (getD cdm i 0)) (bitOf (getD cds i 0)) r) (n : ℕ) (out : List ℕ) where
+-- A step of the code in a column of the row.
+module _ (reader : code.Reader) (column : ℕ) {m x : Bool} {r : Stepped} (steps : Steps (stateOf reader) (placeOf reader column) m x r) where
   abbrev step : Reader.Step
-  step = Reader.step (stateOf reader) (bitOf (getD cdm i 0)) (bitOf (getD cds i 0))
-
-  abbrev rows : ℕ → List Column
-  rows k = drop k (columns (rowOf cdm) (rowOf cds))
-
-  abbrev before : Reached
-  before = reached (stateOf reader) (placeOf reader column) n out (rows i)
-
-  abbrev to : ℕ → List ℕ → Reached
-  to n′ out′ = reached (stateOf (r .next)) (placeOf (r .next) (column + 1)) n′ out′ (rows (i + 1))
-
-  here : rows i ≡ col (bitOf (getD cdm i 0)) (bitOf (getD cds i 0)) ∷ rows (i + 1)
-  here = rw add-one (column-here i cdm cds h (omega arith))
+  step = Reader.step (stateOf reader) m x
 
   state-is : stateOf (r .next) ≡ step .state
   unfolding after moved
@@ -138,16 +125,15 @@ module _ (cdm cds : List ℕ) (i : ℕ) (reader : code.Reader) (column : ℕ) (r
   still-early early =
       rw (ap (λ (p : protocol.Place). p .start) place-is, add-one) (start-early (step .state) (placeOf reader column) early)
 
-  pub turn-none : r .event .kind ≡ 0 → before ≡ to n out
-  turn-none e = rw (here, place-is, state-is) (silent (stateOf reader) _ _ (placeOf reader column) n out (rows (i + 1)) _ refl (rw (← event-is) e))
-
   -- Only a frame shows an event, and there the S that the reader holds is the frame's.
   module _ (e : r .event .kind ≡ 0 → ⊥) where
     in-frame : framed (stateOf reader) ≡ true
     unfolding Reader.step
     in-frame =
         tested (framed (stateOf reader)) (λ f. f)
-        (λ f. absurd (e (ap (λ (v : Event). v .kind) (event-is ∙ ap eventOf (silent-outside begun none _ (λ p. look p _ _) (stateOf reader) _ f)))))
+        (λ f.
+        let silence : step .says ≡ none = silent-outside begun none _ (λ p. look p m x) (stateOf reader) m f in
+        absurd (e (ap (λ (v : Event). v .kind) (event-is ∙ ap eventOf silence))))
 
     its-place : record { column = column; start = reader .body .start } ≡ placeOf reader column
     its-place = rw in-frame
@@ -155,10 +141,32 @@ module _ (cdm cds : List ℕ) (i : ℕ) (reader : code.Reader) (column : ℕ) (r
     pub early-enough : placeOf reader column .start ≤ column → reader .body .start ≤ column
     early-enough early = rw in-frame at early
 
-    pub turn-some : before ≡ to (n + 1) (kept out n (bytesFor (record { column = column; start = reader .body .start }) (r .event)))
-    turn-some =
-        rw (its-place, here, place-is, state-is, event-is)
-        (given (stateOf reader) _ _ (placeOf reader column) n out (rows (i + 1)) _ refl (rw (← event-is) e))
+-- The rows from column i on, by such a step.
+module _ (cdm cds : List ℕ) (i : ℕ) (h : i < length cdm) (same : length cdm ≡ length cds) (reader : code.Reader) (column : ℕ) (r : Stepped)
+    (steps : Steps (stateOf reader) (placeOf reader column) (bitOf (getD cdm i 0)) (bitOf (getD cds i 0)) r) (n : ℕ) (out : List ℕ) where
+  abbrev rows : ℕ → List Column
+  rows k = drop k (columns (rowOf cdm) (rowOf cds))
+
+  abbrev before : Reached
+  before = reached (stateOf reader) (placeOf reader column) n out (rows i)
+
+  abbrev to : ℕ → List ℕ → Reached
+  to n′ out′ = reached (stateOf (r .next)) (placeOf (r .next) (column + 1)) n′ out′ (rows (i + 1))
+
+  here : rows i ≡ col (bitOf (getD cdm i 0)) (bitOf (getD cds i 0)) ∷ rows (i + 1)
+  here = rw add-one (column-here i cdm cds h (omega arith))
+
+  pub turn-none : r .event .kind ≡ 0 → before ≡ to n out
+  turn-none e =
+      rw (here, place-is reader column steps, state-is reader column steps)
+      (silent (stateOf reader) _ _ (placeOf reader column) n out (rows (i + 1)) _ refl (rw (← event-is reader column steps) e))
+
+  pub turn-some : (r .event .kind ≡ 0 → ⊥)
+      → before ≡ to (n + 1) (kept out n (bytesFor (record { column = column; start = reader .body .start }) (r .event)))
+  turn-some e =
+      let event : r .event ≡ eventOf (step reader column steps .says) = event-is reader column steps in
+      rw (its-place reader column steps e, here, place-is reader column steps, state-is reader column steps, event)
+      (given (stateOf reader) _ _ (placeOf reader column) n out (rows (i + 1)) _ refl (rw (← event) e))
 
 -- At the end nothing is left.
 pub none-left : (cdm cds : List ℕ) (i : ℕ) (s : Timed Phase) (p : protocol.Place) (n : ℕ) (out : List ℕ) → length cdm ≤ i

@@ -30,11 +30,8 @@ loop-holds c = (search needs, omega arith, search needs, search needs, refl)
 keep-requires : tie.Need-keep-requires Inv-loop μ-loop
 keep-requires c κs =
     let stepped = c .before .before .before .before in
-    let turning = stepped .before .before .before in
-    let l = turning .before .loop in
-    let a = turning .before .before .before .before .before .before .args in
-    let same = turning .before .before .before .before .before .before .pre .0 in
-    let early = early-enough (a .cdm .now) (a .cds .now) (l .i) (l .reader) (l .column) (stepped .step .result) (turning .loop-test .taken) same (stepped .step .ensures) (l .n) (l .out) (c .before .if1 .taken) (l .inv .3) in
+    let l = stepped .before .before .before .before .loop in
+    let early = early-enough (l .reader) (l .column) (stepped .step .ensures) (c .before .if1 .taken) (l .inv .3) in
     (search needs, (search needs, omega (arith, early)), stepped .step .ensures .bytes)
 
 loop-again : tie.Need-loop-again Inv-loop μ-loop
@@ -46,7 +43,7 @@ loop-again c =
     let r = stepped .step .result in
     let joined = c .before .if1 in
     let same = turning .before .before .before .before .before .before .pre .0 in
-    let early = still-early (a .cdm .now) (a .cds .now) (l .i) (l .reader) (l .column) r (turning .loop-test .taken) same (stepped .step .ensures) (l .n) (l .out) (l .inv .3) in
+    let early = still-early (l .reader) (l .column) (stepped .step .ensures) (l .inv .3) in
     ⊎-elim
     (λ w.
     let up : joined .n ≡ l .n + 1 = w .6 ∙ w .2 .ensures .0 in
@@ -56,7 +53,7 @@ loop-again c =
       omega arith,
       early,
       rw (up, stored)
-          (sym (turn-some (a .cdm .now) (a .cds .now) (l .i) (l .reader) (l .column) r (turning .loop-test .taken) same (stepped .step .ensures) (l .n) (l .out) (search needs))
+          (sym (turn-some (a .cdm .now) (a .cds .now) (l .i) (turning .loop-test .taken) same (l .reader) (l .column) r (stepped .step .ensures) (l .n) (l .out) (search needs))
           ∙ l .inv .4),
     ))
     (λ w.
@@ -67,7 +64,7 @@ loop-again c =
       omega arith,
       early,
       rw (silent, stays)
-          (sym (turn-none (a .cdm .now) (a .cds .now) (l .i) (l .reader) (l .column) r (turning .loop-test .taken) same (stepped .step .ensures) (l .n) (l .out) (search needs))
+          (sym (turn-none (a .cdm .now) (a .cds .now) (l .i) (turning .loop-test .taken) same (l .reader) (l .column) r (stepped .step .ensures) (l .n) (l .out) (search needs))
           ∙ l .inv .4),
     ))
     (joined .came)
