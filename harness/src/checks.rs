@@ -1,7 +1,7 @@
 //! What must hold of the model by itself.
 
 use crate::compare::Left;
-use crate::conditions::has_its_start;
+use crate::conditions::{has_its_start, is_given_up};
 use crate::generate::Random;
 use crate::job::{holding, Job};
 use model::account::rest_after;
@@ -34,6 +34,14 @@ pub fn starts(cdm: &[u8], list: &[u8]) -> Result<(), String> {
     match list.chunks(ENTRY_BYTES).find(|entry| !has_its_start(cdm, entry)) {
         None => Ok(()),
         Some(entry) => Err(format!("the start of {entry:?} is its frame's S")),
+    }
+}
+
+/// At every `mute` of a list's bytes the master gives up unconfirmed after a 1.
+pub fn gives_up(cdm: &[u8], cds: &[u8], list: &[u8]) -> Result<(), String> {
+    match list.chunks(ENTRY_BYTES).find(|entry| !is_given_up(cdm, cds, entry)) {
+        None => Ok(()),
+        Some(entry) => Err(format!("the master gives up at {entry:?}")),
     }
 }
 

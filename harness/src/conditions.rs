@@ -1,5 +1,5 @@
-//! Conditions of refusals that several jobs have, those of a text, and those of an
-//! entry's start.
+//! Conditions of refusals that several jobs have, those of a text, those of an entry's
+//! start and those of a `mute`.
 
 use model::Fault;
 
@@ -50,4 +50,11 @@ pub fn has_its_start(cdm: &[u8], entry: &[u8]) -> bool {
         && cdm[start] == 1
         && !(start + 1..column - 13).any(rests)
         && rests(column - 13) == is_end
+}
+
+/// An entry, given as its bytes, is no `mute`, or the master sent 0 in its column and
+/// in the one before it a 1 that was answered 0.
+pub fn is_given_up(cdm: &[u8], cds: &[u8], entry: &[u8]) -> bool {
+    let column = usize::from(entry[1]) << 8 | usize::from(entry[2]);
+    entry[0] != 9 || (cdm[column] == 0 && cdm[column - 1] == 1 && cds[column - 1] == 0)
 }

@@ -1,10 +1,12 @@
 //! How often each entry kind, each opening again at a frame, each refusal, each
-//! fault of a text, each phase and each way to make a case came up.
+//! fault of a text, each phase, each wait and each way to make a case came up.
 
 mod table;
+mod waits;
 
 use crate::case::Listed;
 use crate::compare::Left;
+use crate::generate::frames::Repeats;
 use crate::generate::recordings::{Answers, ANSWERS};
 use crate::generate::texts::{each, Faults, IN_COLUMN, IN_HEADER};
 use crate::job::{holding, Job};
@@ -19,8 +21,8 @@ use std::fmt;
 use std::ops::RangeInclusive;
 
 const LEAST: u64 = 100;
-/// "2, 8, 9, 12 and 14 never occur" in the account, so not in honest rows.
-const NEVER_HONEST: [u8; 5] = [2, 8, 9, 12, 14];
+/// These never occur in the account, so not in honest rows; "`mute` may now stand" there.
+const NEVER_HONEST: [u8; 4] = [2, 8, 12, 14];
 const LOCKS: RangeInclusive<u8> = 0..=9;
 
 /// Where in a text a fault stands.
@@ -65,6 +67,12 @@ pub enum Count {
     /// Rows in which a slave, or the reader, met a phase.
     SlaveAt(Phase),
     ReaderAt(Phase),
+    /// Bytes of honest rows that a slave with such a waiting number confirmed, or that
+    /// the master gave up; of a write or not.
+    Confirmed(bool, Option<u8>),
+    GivenUp(bool, Option<u8>),
+    /// What became of bytes whose master repeats S so: entries of a kind.
+    Repeated(Repeats, u8),
     /// Faults of texts: where, the number, and the byte in the line.
     Fault(Part, u8, usize),
     Made(&'static str),
@@ -85,6 +93,12 @@ fn kind_name(kind: u8) -> &'static str {
     FORMS[usize::from(kind) - 1].name
 }
 
+fn of_byte(is_writing: bool, wait: Option<u8>) -> String {
+    let access = if is_writing { "write" } else { "read" };
+    let wait = wait.map_or("other".to_string(), |wait| wait.to_string());
+    format!("{access}, wait {wait}")
+}
+
 impl fmt::Display for Count {
     fn fmt(&self, to: &mut fmt::Formatter) -> fmt::Result {
         match self {
@@ -98,6 +112,9 @@ impl fmt::Display for Count {
             Count::ReopenedPastOthers => write!(to, "reopened past others"),
             Count::SlaveAt(phase) => write!(to, "slave at {phase:?}"),
             Count::ReaderAt(phase) => write!(to, "reader at {phase:?}"),
+            Count::Confirmed(writing, wait) => write!(to, "{} confirmed", of_byte(*writing, *wait)),
+            Count::GivenUp(writing, wait) => write!(to, "{} given up", of_byte(*writing, *wait)),
+            Count::Repeated(repeats, kind) => write!(to, "{repeats:?} {}", kind_name(*kind)),
             Count::Fault(part, number, byte) => write!(to, "{part:?} {number} at byte {byte}"),
             Count::Made(job) => write!(to, "{job} made"),
             Count::Marked(job, mark) => write!(to, "{job} {mark}"),
@@ -221,6 +238,7 @@ fn expected() -> Vec<Count> {
     all.extend([Count::ReopenedLate, Count::ReopenedPastOthers]);
     all.extend(PHASES.map(Count::SlaveAt));
     all.extend(PHASES.map(Count::ReaderAt));
+    all.extend(waits::expected());
     all.extend(PARTS.into_iter().flat_map(expected_of_texts));
     all.extend(JOBS.iter().flat_map(expected_of_job));
     all

@@ -1,12 +1,13 @@
 //! What cases are made of: the same seed always gives the same.
 
 pub mod chains;
+pub mod frames;
 pub mod lists;
 pub mod provoked;
 mod random;
 pub mod recordings;
 mod rooms;
-mod rows;
+pub mod rows;
 pub mod texts;
 
 pub use provoked::Provoked;

@@ -44,11 +44,14 @@ macro_rules! table {
 }
 
 table! {
-    build_read(id: u8, address: u8, count: usize, out: &mut [u8]) => build_read::BuildRead, 3;
-    build_write(id: u8, address: u8, bytes: &[u8], out: &mut [u8]) => build_write::BuildWrite, 3;
+    build_read(id: u8, address: u8, count: usize, wait: u8, out: &mut [u8])
+        => build_read::BuildRead, 3;
+    build_write(id: u8, address: u8, bytes: &[u8], wait: u8, out: &mut [u8])
+        => build_write::BuildWrite, 3;
     build_command(ids: u8, cmd: u8, out: &mut [u8]) => build_command::BuildCommand, 2;
-    run(slaves: usize, rights: &[u8], registers: &mut [u8], cdm: &[u8], cds: &mut [u8])
-        => run::Run, 31;
+    run(
+        slaves: usize, rights: &[u8], waits: &[u8], registers: &mut [u8], cdm: &[u8], cds: &mut [u8]
+    ) => run::Run, 31;
     read(cdm: &[u8], cds: &[u8], opening: usize, out: &mut [u8]) => read::Read, 31;
     text_to_rows(text: &[u8], cdm: &mut [u8], cds: &mut [u8]) => text_to_rows::TextToRows, 12;
     rows_to_text(cdm: &[u8], cds: &[u8], out: &mut [u8]) => rows_to_text::RowsToText, 9;

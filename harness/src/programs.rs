@@ -76,7 +76,7 @@ fn at_frame(two_frames: &[u8]) -> [Input; 3] {
 /// zeros before its frame and behind it.
 fn bench_row(before: usize, behind: usize) -> Vec<u8> {
     let mut row = vec![0; READ_COLUMNS];
-    assert_eq!(build_read(0, 0x44, 1, &mut row), Made(READ_COLUMNS));
+    assert_eq!(build_read(0, 0x44, 1, 0, &mut row), Made(READ_COLUMNS));
     [vec![0; before], row.split_off(14), vec![0; behind]].concat()
 }
 
@@ -89,9 +89,9 @@ fn busy_row(columns: usize) -> Vec<u8> {
         }
         let mut frame = vec![0; 32 + 14 * 3];
         if address % 2 == 0 {
-            build_write(0, address, &[address, 0x5A, !address], &mut frame);
+            build_write(0, address, &[address, 0x5A, !address], 0, &mut frame);
         } else {
-            build_read(0, address.min(125), 3, &mut frame);
+            build_read(0, address.min(125), 3, 0, &mut frame);
         }
         row.extend(frame);
     }
@@ -105,7 +105,7 @@ fn text(cdm: &[u8]) -> Vec<u8> {
     let mut registers = vec![0; 128];
     registers[0x44] = 0x5A;
     let mut cds = vec![0; cdm.len()];
-    assert_eq!(run(1, &[3; 128], &mut registers, cdm, &mut cds), Made(cdm.len()));
+    assert_eq!(run(1, &[3; 128], &[0], &mut registers, cdm, &mut cds), Made(cdm.len()));
     let mut text = vec![0; 8 + 4 * cdm.len()];
     assert_eq!(rows_to_text(cdm, &cds, &mut text), Made(text.len()));
     text

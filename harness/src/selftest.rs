@@ -65,14 +65,14 @@ fn check_values(card: &mut Card) {
 
 fn built_read(id: u8, address: u8, count: usize) -> Vec<u8> {
     let mut row = vec![0; 32 + 14 * count];
-    build_read(id, address, count, &mut row);
+    build_read(id, address, count, 0, &mut row);
     row
 }
 
 /// Answers of a chain with all rights 3 and the given registers.
 fn answers(slaves: usize, registers: &mut [u8], cdm: &[u8]) -> Vec<u8> {
     let mut cds = vec![0; cdm.len()];
-    let outcome = run(slaves, &vec![3; 128 * slaves], registers, cdm, &mut cds);
+    let outcome = run(slaves, &vec![3; 128 * slaves], &vec![0; slaves], registers, cdm, &mut cds);
     assert_eq!(outcome, Made(cdm.len()));
     cds
 }
@@ -132,7 +132,7 @@ fn starts(card: &mut Card) {
         entries.iter().map(|entry| (entry.column, entry.start)).collect()
     };
     card.same("starts of two frames", starts(list(&cdm, &cds, 0)), both.clone());
-    let account = account(1, &[3; 128], &[0; 128], &cdm);
+    let account = account(1, &[3; 128], &[0], &[0; 128], &cdm);
     card.same("starts in the account", starts(account.entries), both);
     card.same("let in within a frame", starts(list(&cdm, &cds, 30)), second.to_vec());
     card.same("opened at the frame", starts(list(&cdm, &cds, 60 - 14)), second.to_vec());
@@ -166,21 +166,21 @@ fn other_runs(card: &mut Card) {
     let cds = answers(1, &mut [7; 128], &cdm);
     card.same("P of the 63rd byte", cds[32 + 14 * 62 + 13], 0);
     card.same("P of the 64th byte", cds[32 + 14 * 63 + 13], 1);
-    let account = account(1, &[3; 128], &[7; 128], &cdm);
+    let account = account(1, &[3; 128], &[0], &[7; 128], &cdm);
     card.same("account of 64 bytes", account.entries, list(&cdm, &cds, 0));
 }
 
 fn limits(card: &mut Card) {
     let mut out = [9; 1000];
-    card.same("64 bytes from 64", build_read(0, 64, 64, &mut out), Made(928));
+    card.same("64 bytes from 64", build_read(0, 64, 64, 0, &mut out), Made(928));
     card.same("byte past the row", out[928], 9);
-    card.same("64 bytes from 65", build_read(0, 65, 64, &mut out), Refused(10));
-    card.same("64 written from 65", build_write(0, 65, &[0; 64], &mut out), Refused(10));
-    card.same("id 8", build_read(8, 0, 1, &mut out), Refused(10));
-    card.same("count 0", build_write(0, 0, &[], &mut out), Refused(10));
-    card.same("a count without end", build_read(0, 0, usize::MAX, &mut out), Refused(10));
-    card.same("10 before 9", build_read(8, 0, 1, &mut []), Refused(10));
-    card.same("one column short", build_read(0, 0, 1, &mut out[..45]), Refused(9));
+    card.same("64 bytes from 65", build_read(0, 65, 64, 0, &mut out), Refused(10));
+    card.same("64 written from 65", build_write(0, 65, &[0; 64], 0, &mut out), Refused(10));
+    card.same("id 8", build_read(8, 0, 1, 0, &mut out), Refused(10));
+    card.same("count 0", build_write(0, 0, &[], 0, &mut out), Refused(10));
+    card.same("a count without end", build_read(0, 0, usize::MAX, 0, &mut out), Refused(10));
+    card.same("10 before 9", build_read(8, 0, 1, 0, &mut []), Refused(10));
+    card.same("one column short", build_read(0, 0, 1, 0, &mut out[..45]), Refused(9));
     card.same("CMD 4", build_command(0, 4, &mut out), Refused(10));
     card.same("a command", build_command(0, 2, &mut out), Made(30));
     let command: Vec<u8> = [[0; 14].as_slice(), &[1], &[0; 9], &[1, 0], &[1, 0, 0, 1]].concat();
@@ -200,7 +200,7 @@ fn easy_errors(card: &mut Card) {
     card.same("S, CTS = 1, fourteen zeros", kinds(&cdm, &cds), wanted);
 
     let mut cdm = [0; 46];
-    build_write(0, 5, &[0x5A], &mut cdm);
+    build_write(0, 5, &[0x5A], 0, &mut cdm);
     let mut registers = [0; 128];
     answers(1, &mut registers, &cdm[..44]);
     card.same("nothing stored before the last check bit", registers[5], 0);
@@ -214,12 +214,12 @@ fn easy_errors(card: &mut Card) {
 
 fn easy_answers(card: &mut Card) {
     let mut cdm = [0; 46];
-    build_write(0, 5, &[0x5A], &mut cdm);
+    build_write(0, 5, &[0x5A], 0, &mut cdm);
     let nobody = answers(0, &mut [], &cdm);
     let wanted = vec![(Kind::Lock, 23), (Kind::Absent, 31)];
     card.same("unanswered write, nobody there", kinds(&cdm, &nobody), wanted);
     let mut cds = [0; 46];
-    run(1, &[1; 128], &mut [0; 128], &cdm, &mut cds);
+    run(1, &[1; 128], &[0], &mut [0; 128], &cdm, &mut cds);
     let wanted = vec![(Kind::Lock, 23), (Kind::Refused, 31)];
     card.same("refused write", kinds(&cdm, &cds), wanted);
 }

@@ -11,14 +11,21 @@ use super::slave::allows;
 pub struct Account<'a> {
     slaves: usize,
     rights: &'a [u8],
+    waits: &'a [u8],
     pub registers: Vec<u8>,
     pub entries: Vec<Entry>,
 }
 
 /// The account of a whole row; the arguments must be ones `run` does not refuse.
-pub fn account<'a>(slaves: usize, rights: &'a [u8], registers: &[u8], cdm: &[u8]) -> Account<'a> {
-    let mut account =
-        Account { slaves, rights, registers: registers.to_vec(), entries: Vec::new() };
+pub fn account<'a>(
+    slaves: usize,
+    rights: &'a [u8],
+    waits: &'a [u8],
+    registers: &[u8],
+    cdm: &[u8],
+) -> Account<'a> {
+    let (registers, entries) = (registers.to_vec(), Vec::new());
+    let mut account = Account { slaves, rights, waits, registers, entries };
     let mut rest = rest_after(cdm, 0);
     while let Some(start) = rest.and_then(|rest| first_one(cdm, rest)) {
         rest = rest_after(cdm, start);
@@ -40,6 +47,11 @@ pub fn rest_after(cdm: &[u8], from: usize) -> Option<usize> {
 
 fn first_one(cdm: &[u8], from: usize) -> Option<usize> {
     cdm[from..].iter().position(|&bit| bit == 1).map(|ahead| from + ahead)
+}
+
+/// How many ones stand there before the first 0, or the end.
+fn ones(bits: &[u8]) -> usize {
+    bits.iter().take_while(|&&bit| bit == 1).count()
 }
 
 /// Bits as a number, highest first.
@@ -87,20 +99,28 @@ impl Account<'_> {
         } else if !self.is_allowed(id, address, w == 1) {
             Kind::Refused
         } else {
-            return self.bytes(start, &frame[18..], id, address, w == 1);
+            return self.bytes(start, frame, id, address, w == 1);
         };
         let value = if kind == Kind::Refused { w } else { 0 };
         self.note(start, 17, Entry::of(kind).place(id, address).value(value));
     }
 
-    /// `columns` are those after W; byte n has the fourteen from 14n on.
-    fn bytes(&mut self, start: usize, columns: &[u8], id: u8, address: u8, writing: bool) {
-        for (n, byte) in columns.chunks(14).enumerate() {
-            let after = 18 + 14 * n;
-            let address = address + n as u8;
-            if byte[0] == 0 || byte.len() <= 12 {
+    /// A byte has the ones that its slave waits for, and then fourteen columns from the
+    /// S that is confirmed on; fewer ones are a master that gives up.
+    fn bytes(&mut self, start: usize, frame: &[u8], id: u8, address: u8, writing: bool) {
+        let mut after = 18;
+        for n in 0..64 {
+            let address = address + n;
+            let wait = if writing && n == 0 { 0 } else { usize::from(self.waits[usize::from(id)]) };
+            let ones = ones(&frame[after..]);
+            if 0 < ones && ones <= wait && after + ones < frame.len() {
+                self.note(start, after + ones, Entry::of(Kind::Mute).place(id, address));
+            }
+            after += wait;
+            if ones <= wait || frame.len() <= after + 12 {
                 return;
             }
+            let byte = &frame[after..];
             let kind = if writing { self.write(id, address, byte) } else { Kind::Read };
             let value =
                 if writing { number(&byte[1..9]) as u8 } else { self.register(id, address) };
@@ -113,6 +133,7 @@ impl Account<'_> {
                 self.note(start, after + 13, Entry::of(Kind::Closed).place(id, address));
                 return;
             }
+            after += 14;
         }
     }
 

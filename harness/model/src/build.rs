@@ -1,7 +1,7 @@
 //! "A row is fourteen zeros and one frame."
 
 use super::check::{check_bits, command_word, register_word, BYTE_BITS, HEADER_BITS};
-use super::rows::ZEROS_TO_REST;
+use super::rows::{MOST_COLUMNS, ZEROS_TO_REST};
 use super::Outcome::{self, Made, Refused};
 
 const MOST_BYTES: usize = 64;
@@ -28,6 +28,13 @@ impl Pen<'_> {
         self.put(word, HEADER_BITS);
         self.put(u16::from(check_bits(word, HEADER_BITS)), 4);
     }
+
+    /// S, and S again that often.
+    fn put_start(&mut self, repeats: u8) {
+        for _ in 0..=repeats {
+            self.put(1, 1);
+        }
+    }
 }
 
 fn is_bad_access(id: u8, address: u8, count: usize) -> bool {
@@ -38,42 +45,49 @@ fn is_bad_access(id: u8, address: u8, count: usize) -> bool {
         || usize::from(address) + count > 128
 }
 
-/// "Reading n bytes takes 32 + 14n columns, writing n lent bytes likewise."
-fn access_columns(count: usize) -> usize {
-    32 + 14 * count
+/// 5, "when the row would pass 4,096 columns", and 9.
+fn refusal_of_length(columns: usize, out: &[u8]) -> Option<u8> {
+    if columns > MOST_COLUMNS {
+        return Some(5);
+    }
+    (out.len() < columns).then_some(9)
 }
 
-pub fn build_read(id: u8, address: u8, count: usize, out: &mut [u8]) -> Outcome {
+/// "Repeats S that often at every byte that waits."
+pub fn build_read(id: u8, address: u8, count: usize, wait: u8, out: &mut [u8]) -> Outcome {
     if is_bad_access(id, address, count) {
         return Refused(10);
     }
-    if out.len() < access_columns(count) {
-        return Refused(9);
+    let columns = 32 + (14 + usize::from(wait)) * count;
+    if let Some(number) = refusal_of_length(columns, out) {
+        return Refused(number);
     }
     let mut pen = Pen { row: out, column: 0 };
     pen.put_header(register_word(id, address));
     pen.put(0b10, 2);
     for _ in 0..count {
-        pen.put(1, 1);
+        pen.put_start(wait);
         pen.put(0, 12);
         pen.put(0, 1);
     }
     Made(pen.column)
 }
 
-pub fn build_write(id: u8, address: u8, bytes: &[u8], out: &mut [u8]) -> Outcome {
+/// "So not at the first of a write."
+pub fn build_write(id: u8, address: u8, bytes: &[u8], wait: u8, out: &mut [u8]) -> Outcome {
     if is_bad_access(id, address, bytes.len()) {
         return Refused(10);
     }
-    if out.len() < access_columns(bytes.len()) {
-        return Refused(9);
+    let columns = 32 + 14 * bytes.len() + usize::from(wait) * (bytes.len() - 1);
+    if let Some(number) = refusal_of_length(columns, out) {
+        return Refused(number);
     }
     let mut pen = Pen { row: out, column: 0 };
     pen.put_header(register_word(id, address));
     pen.put(0b01, 2);
-    for &byte in bytes {
+    for (n, &byte) in bytes.iter().enumerate() {
         let data = u16::from(byte);
-        pen.put(1, 1);
+        pen.put_start(if n == 0 { 0 } else { wait });
         pen.put(data, BYTE_BITS);
         pen.put(u16::from(check_bits(data, BYTE_BITS)), 4);
         pen.put(0, 1);

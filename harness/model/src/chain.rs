@@ -8,7 +8,14 @@ use super::Outcome::{self, Made, Refused};
 
 const MOST_SLAVES: usize = 16;
 
-fn refusal(slaves: usize, rights: &[u8], registers: &[u8], cdm: &[u8], cds: &[u8]) -> Option<u8> {
+fn refusal(
+    slaves: usize,
+    rights: &[u8],
+    waits: &[u8],
+    registers: &[u8],
+    cdm: &[u8],
+    cds: &[u8],
+) -> Option<u8> {
     if slaves > MOST_SLAVES {
         return Some(1);
     }
@@ -21,6 +28,9 @@ fn refusal(slaves: usize, rights: &[u8], registers: &[u8], cdm: &[u8], cds: &[u8
     if rights.iter().any(|&right| right > 3) {
         return Some(4);
     }
+    if waits.len() != slaves {
+        return Some(18);
+    }
     if is_too_long(cdm) || is_too_long(cds) {
         return Some(5);
     }
@@ -32,14 +42,15 @@ fn refusal(slaves: usize, rights: &[u8], registers: &[u8], cdm: &[u8], cds: &[u8
 }
 
 /// A chain as it is at power-on.
-fn power_on<'a>(rights: &'a [u8], registers: &'a mut [u8]) -> Vec<Slave<'a>> {
-    let each = rights.chunks(REGISTERS).zip(registers.chunks_mut(REGISTERS));
-    each.map(|(rights, registers)| Slave::at_power_on(rights, registers)).collect()
+fn power_on<'a>(rights: &'a [u8], waits: &[u8], registers: &'a mut [u8]) -> Vec<Slave<'a>> {
+    let each = rights.chunks(REGISTERS).zip(waits).zip(registers.chunks_mut(REGISTERS));
+    let slave = |((rights, &wait), registers)| Slave::at_power_on(rights, wait, registers);
+    each.map(slave).collect()
 }
 
 /// The phases that the slaves of a chain meet over a master row.
-pub fn phases(rights: &[u8], registers: &mut [u8], cdm: &[u8]) -> Met {
-    let mut chain = power_on(rights, registers);
+pub fn phases(rights: &[u8], waits: &[u8], registers: &mut [u8], cdm: &[u8]) -> Met {
+    let mut chain = power_on(rights, waits, registers);
     let mut met = Met::none();
     for &bit in cdm {
         chain.iter().for_each(|slave| met.meet(slave.phase()));
@@ -52,14 +63,15 @@ pub fn phases(rights: &[u8], registers: &mut [u8], cdm: &[u8]) -> Met {
 pub fn run(
     slaves: usize,
     rights: &[u8],
+    waits: &[u8],
     registers: &mut [u8],
     cdm: &[u8],
     cds: &mut [u8],
 ) -> Outcome {
-    if let Some(number) = refusal(slaves, rights, registers, cdm, cds) {
+    if let Some(number) = refusal(slaves, rights, waits, registers, cdm, cds) {
         return Refused(number);
     }
-    let mut chain = power_on(rights, registers);
+    let mut chain = power_on(rights, waits, registers);
     for (&bit, answer) in cdm.iter().zip(cds.iter_mut()) {
         *answer = chain.iter_mut().fold(0, |seen, slave| slave.step(bit, seen));
     }

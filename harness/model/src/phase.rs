@@ -11,15 +11,17 @@ pub enum Phase {
     R,
     W,
     ReadStart,
+    ReadWaits,
     ReadBits,
     ReadP,
     WriteStart,
+    WriteWaits,
     WriteBits,
     WriteP,
     Deaf,
 }
 
-pub const PHASES: [Phase; 13] = [
+pub const PHASES: [Phase; 15] = [
     Phase::PowerOn,
     Phase::Rest,
     Phase::Locks,
@@ -27,9 +29,11 @@ pub const PHASES: [Phase; 13] = [
     Phase::R,
     Phase::W,
     Phase::ReadStart,
+    Phase::ReadWaits,
     Phase::ReadBits,
     Phase::ReadP,
     Phase::WriteStart,
+    Phase::WriteWaits,
     Phase::WriteBits,
     Phase::WriteP,
     Phase::Deaf,
@@ -50,6 +54,15 @@ pub fn of_access(writing: bool, read: Phase, write: Phase) -> Phase {
         write
     } else {
         read
+    }
+}
+
+/// The phase of a byte's S, before the first 1 there or after one that was answered 0.
+pub fn of_byte_start(writing: bool, waits: bool) -> Phase {
+    if waits {
+        of_access(writing, Phase::ReadWaits, Phase::WriteWaits)
+    } else {
+        of_access(writing, Phase::ReadStart, Phase::WriteStart)
     }
 }
 

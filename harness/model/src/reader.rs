@@ -3,7 +3,7 @@
 use super::check::{check_is_right, BYTE_BITS, HEADER_BITS};
 use super::entry::{Entry, Kind};
 use super::frame::{BYTE_AND_CHECK, FIRST_LOCK, LAST_HEADER, MOST_BYTES};
-use super::phase::{of_access, of_header, Phase};
+use super::phase::{of_access, of_byte_start, of_header, Phase};
 use super::rows::Zeros;
 
 const LAST_ADDRESS: u8 = 127;
@@ -39,7 +39,11 @@ enum Awaits {
         r: u8,
         answered_r: u8,
     },
-    ByteStart(Access),
+    /// Whether a 1 at this byte's S was answered 0.
+    ByteStart {
+        access: Access,
+        unconfirmed: bool,
+    },
     Byte {
         access: Access,
         done: u8,
@@ -93,7 +97,9 @@ impl Reader {
             Awaits::W { id, address, r, answered_r } => {
                 self.w(id, address, (r, cdm), (answered_r, cds))
             }
-            Awaits::ByteStart(access) => self.byte_start(access, cdm, cds),
+            Awaits::ByteStart { access, unconfirmed } => {
+                self.byte_start(access, unconfirmed, cdm, cds)
+            }
             Awaits::Byte { access, done, cdm: sent, cds: answered } => self.byte(
                 access,
                 done + 1,
@@ -111,7 +117,7 @@ impl Reader {
             Awaits::Header { column, .. } => of_header(column),
             Awaits::R { .. } => Phase::R,
             Awaits::W { .. } => Phase::W,
-            Awaits::ByteStart(a) => of_access(a.writing, Phase::ReadStart, Phase::WriteStart),
+            Awaits::ByteStart { access: a, unconfirmed } => of_byte_start(a.writing, unconfirmed),
             Awaits::Byte { access: a, .. } => {
                 of_access(a.writing, Phase::ReadBits, Phase::WriteBits)
             }
@@ -181,7 +187,8 @@ impl Reader {
         } else if locked && answered == (r, 1 - w) {
             Entry::of(Kind::Refused).value(w)
         } else if locked && answered == (r, w) {
-            self.awaits = Awaits::ByteStart(Access { id, address, writing: w == 1, nth: 1 });
+            let access = Access { id, address, writing: w == 1, nth: 1 };
+            self.awaits = Awaits::ByteStart { access, unconfirmed: false };
             return None;
         } else {
             Entry::of(Kind::Odd).value(2 * answered.0 + answered.1)
@@ -189,13 +196,19 @@ impl Reader {
         self.deaf_after(entry.place(id, address))
     }
 
-    fn byte_start(&mut self, access: Access, cdm: u8, cds: u8) -> Option<Entry> {
+    /// "`mute` only when the master gives up unconfirmed after a 1, in the column of
+    /// that 0."
+    fn byte_start(&mut self, access: Access, unconfirmed: bool, cdm: u8, cds: u8) -> Option<Entry> {
+        if cdm == 0 && unconfirmed {
+            return self.deaf_after(Entry::of(Kind::Mute).place(access.id, access.address));
+        }
         if cdm == 0 {
             self.awaits = Awaits::Rest;
             return None;
         }
         if cds == 0 {
-            return self.deaf_after(Entry::of(Kind::Mute).place(access.id, access.address));
+            self.awaits = Awaits::ByteStart { access, unconfirmed: true };
+            return None;
         }
         self.awaits = Awaits::Byte { access, done: 0, cdm: 0, cds: 0 };
         None
@@ -229,7 +242,8 @@ impl Reader {
             return self.deaf_after(entry.place(access.id, access.address));
         }
         let (address, nth) = (access.address + 1, access.nth + 1);
-        self.awaits = Awaits::ByteStart(Access { address, nth, ..access });
+        let access = Access { address, nth, ..access };
+        self.awaits = Awaits::ByteStart { access, unconfirmed: false };
         None
     }
 }

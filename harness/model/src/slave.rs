@@ -2,7 +2,7 @@
 
 use super::check::{check_bits, check_is_right, BYTE_BITS, HEADER_BITS};
 use super::frame::{BYTE_AND_CHECK, FIRST_LOCK, LAST_HEADER, MOST_BYTES, REGISTERS};
-use super::phase::{of_access, of_header, Phase};
+use super::phase::{of_access, of_byte_start, of_header, Phase};
 use super::rows::Zeros;
 
 /// "One right for each: 0 none, 1 read, 2 write, 3 both."
@@ -37,7 +37,11 @@ enum Awaits {
         address: u8,
         r: u8,
     },
-    ByteStart(Access),
+    /// How often S = 1 was answered 0 at this byte.
+    ByteStart {
+        access: Access,
+        waited: u8,
+    },
     /// Data and check bits already passed; reading, `bits` are those to send.
     Byte {
         access: Access,
@@ -52,6 +56,8 @@ enum Awaits {
 
 pub struct Slave<'a> {
     rights: &'a [u8],
+    /// The waiting number.
+    wait: u8,
     registers: &'a mut [u8],
     zeros: Zeros,
     number: Option<u8>,
@@ -59,9 +65,9 @@ pub struct Slave<'a> {
 }
 
 impl<'a> Slave<'a> {
-    pub fn at_power_on(rights: &'a [u8], registers: &'a mut [u8]) -> Slave<'a> {
+    pub fn at_power_on(rights: &'a [u8], wait: u8, registers: &'a mut [u8]) -> Slave<'a> {
         let zeros = Zeros::none_yet();
-        Slave { rights, registers, zeros, number: None, awaits: Awaits::Rest }
+        Slave { rights, wait, registers, zeros, number: None, awaits: Awaits::Rest }
     }
 
     pub fn phase(&self) -> Phase {
@@ -71,7 +77,7 @@ impl<'a> Slave<'a> {
             Awaits::Header { seen, .. } => of_header(seen + 1),
             Awaits::R { .. } => Phase::R,
             Awaits::W { .. } => Phase::W,
-            Awaits::ByteStart(a) => of_access(a.writing, Phase::ReadStart, Phase::WriteStart),
+            Awaits::ByteStart { access: a, waited } => of_byte_start(a.writing, waited > 0),
             Awaits::Byte { access: a, .. } => {
                 of_access(a.writing, Phase::ReadBits, Phase::WriteBits)
             }
@@ -98,7 +104,7 @@ impl<'a> Slave<'a> {
                 cdm
             }
             Awaits::W { address, r } => self.w(address, r, cdm),
-            Awaits::ByteStart(access) => self.byte_start(access, cdm),
+            Awaits::ByteStart { access, waited } => self.byte_start(access, waited, cdm),
             Awaits::Byte { access, done, bits } => self.byte(access, done, bits, cdm),
             Awaits::P { access, stored_or_read } => self.p(access, stored_or_read),
         }
@@ -154,13 +160,27 @@ impl<'a> Slave<'a> {
             self.awaits = Awaits::Rest;
             return 1 - w;
         }
-        self.awaits = Awaits::ByteStart(Access { writing, address, passed: 0 });
+        let access = Access { writing, address, passed: 0 };
+        self.awaits = Awaits::ByteStart { access, waited: 0 };
         w
     }
 
-    fn byte_start(&mut self, access: Access, cdm: u8) -> u8 {
+    /// "In a write the first byte does not" wait.
+    fn wait_at(&self, access: Access) -> u8 {
+        if access.writing && access.passed == 0 {
+            return 0;
+        }
+        self.wait
+    }
+
+    /// "With S = 1 it answers 0 that many times and then 1."
+    fn byte_start(&mut self, access: Access, waited: u8, cdm: u8) -> u8 {
         if cdm == 0 {
             self.awaits = Awaits::Rest;
+            return 0;
+        }
+        if waited < self.wait_at(access) {
+            self.awaits = Awaits::ByteStart { access, waited: waited + 1 };
             return 0;
         }
         let held = u16::from(self.registers[usize::from(access.address)]);
@@ -208,7 +228,8 @@ impl<'a> Slave<'a> {
             self.awaits = Awaits::Rest;
             return 1;
         }
-        self.awaits = Awaits::ByteStart(Access { address: next, passed, ..access });
+        let access = Access { address: next, passed, ..access };
+        self.awaits = Awaits::ByteStart { access, waited: 0 };
         0
     }
 }

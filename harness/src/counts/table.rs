@@ -1,7 +1,9 @@
 //! The counts as a table.
 
+use super::waits::{BYTES, WAITS};
 use super::{kind_name, kinds, Count, Counts, Part, LOCKS, PARTS};
 use crate::case::Listed;
+use crate::generate::frames::REPEATS;
 use crate::generate::recordings::{Answers, ANSWERS};
 use crate::generate::texts::Faults;
 use crate::jobs::JOBS;
@@ -9,12 +11,13 @@ use model::phase::PHASES;
 use std::ops::RangeInclusive;
 
 /// The bytes of the longest line of a text, the header.
-const BYTES: RangeInclusive<usize> = 0..=7;
+const LINE: RangeInclusive<usize> = 0..=7;
 
 impl Counts {
     pub fn table(&self) -> String {
         let jobs: String = JOBS.iter().map(|job| self.table_of_job(job)).collect();
-        self.table_of_entries() + &self.table_of_phases() + &self.table_of_faults() + &jobs
+        let waits = self.table_of_waits();
+        self.table_of_entries() + &self.table_of_phases() + &waits + &self.table_of_faults() + &jobs
     }
 
     fn table_of_entries(&self) -> String {
@@ -52,9 +55,32 @@ impl Counts {
         text
     }
 
+    fn table_of_waits(&self) -> String {
+        let row = |name: &str, cells: Vec<String>| {
+            let cells: String = cells.iter().map(|cell| format!("{cell:>10}")).collect();
+            format!("{name:<16}{cells}\n")
+        };
+        let times = |count| self.of(count).to_string();
+        let waits = WAITS.map(|wait| wait.map_or("other".to_string(), |wait| wait.to_string()));
+        let mut text = format!("\n{}", row("waits", waits.into()));
+        for (name, is_writing) in [("read", false), ("write", true)] {
+            let confirmed = WAITS.map(|wait| times(Count::Confirmed(is_writing, wait)));
+            let given_up = WAITS.map(|wait| times(Count::GivenUp(is_writing, wait)));
+            text += &row(&format!("   {name}, 1"), confirmed.into());
+            text += &row(&format!("   {name}, mute"), given_up.into());
+        }
+        let kinds = BYTES.map(|kind| kind as u8);
+        text += &row("master repeats", kinds.map(|kind| kind_name(kind).to_string()).into());
+        for repeats in REPEATS {
+            let became = kinds.map(|kind| times(Count::Repeated(repeats, kind)));
+            text += &row(&format!("   {repeats:?}"), became.into());
+        }
+        text
+    }
+
     fn table_of_faults(&self) -> String {
         let row = |name: &str, cell: &dyn Fn(usize) -> String| {
-            let cells: String = BYTES.map(|byte| format!("{:>7}", cell(byte))).collect();
+            let cells: String = LINE.map(|byte| format!("{:>7}", cell(byte))).collect();
             format!("{name:<16}{cells}\n")
         };
         let times = |count| match self.of(count) {

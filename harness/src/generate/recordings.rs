@@ -26,9 +26,10 @@ pub struct Recording {
 }
 
 pub fn recording(random: &mut Random) -> Recording {
-    let (mut chain, mut cdm) = chain_and_row(random);
+    let (mut chain, row) = chain_and_row(random);
+    let mut cdm = row.cdm;
     let mut cds = vec![0; cdm.len()];
-    run(chain.slaves, &chain.rights, &mut chain.registers, &cdm, &mut cds);
+    run(chain.slaves, &chain.rights, &chain.waits, &mut chain.registers, &cdm, &mut cds);
     let answers = random.pick(&ANSWERS);
     if !cdm.is_empty() {
         match answers {
@@ -113,11 +114,11 @@ fn flip_each(random: &mut Random, row: &mut [u8], one_in: usize) {
 }
 
 /// Flips answers on which an entry hangs: in its own column, in one before, or
-/// at the S of its byte.
+/// at the S of its byte, confirmed or waited for.
 fn flip_at_entries(random: &mut Random, cdm: &[u8], cds: &mut [u8]) {
     let one_in = random.pick(&[2, 4, 200, 1000]);
     for entry in list(cdm, cds, 0) {
-        let back = random.pick(&[0, 0, 0, 1, 5, 12]);
+        let back = random.pick(&[0, 0, 0, 0, 0, 1, 1, 5, 12, 12, 13]);
         if entry.kind == Kind::Closed {
             cds[entry.column] ^= random.bit();
         } else if random.one_in(one_in) {
@@ -135,7 +136,7 @@ fn make_random(random: &mut Random, cdm: &[u8], cds: &mut [u8]) {
     cds.copy_from_slice(&random.bits(cdm.len(), ones));
     if random.one_in(2) {
         cds.copy_from_slice(cdm);
-        let one_in = random.pick(&[32, 200]);
+        let one_in = random.pick(&[32, 200, 1000]);
         flip_each(random, cds, one_in);
     }
     let is_lock = |entry: &&Entry| entry.kind == Kind::Lock;

@@ -48,13 +48,14 @@ impl Job for ListToText {
 
     /// Its columns are the printed bytes.
     fn timed() -> Vec<Timed<ListToText>> {
-        let timed = |(name, rows): (_, Vec<Vec<u8>>)| {
-            let cases: Vec<_> = rows.iter().map(|cdm| ListToText::of_one_slave(cdm)).collect();
+        let timed = |(name, wait, rows): (_, _, Vec<Vec<u8>>)| {
+            let cases: Vec<_> =
+                rows.iter().map(|cdm| ListToText::of_one_slave(wait, cdm)).collect();
             let entries = cases.iter().map(|case| case.kinds().count()).sum::<usize>();
             let bytes = cases.iter().map(|case| case.out.len()).sum();
             Timed::new(&format!("list, {}", entries / rows.len()), name, bytes, cases)
         };
-        let is_busy = |&(name, _): &(&str, _)| name != "idle";
+        let is_busy = |&(name, ..): &(&str, _, _)| name != "idle";
         rows::timed(1).into_iter().filter(is_busy).map(timed).collect()
     }
 }
@@ -70,8 +71,8 @@ impl ListToText {
     }
 
     /// The list of a row that one slave answered.
-    fn of_one_slave(cdm: &[u8]) -> ListToText {
-        let list = rows::listed(cdm);
+    fn of_one_slave(wait: u8, cdm: &[u8]) -> ListToText {
+        let list = rows::listed(wait, cdm);
         let bytes = printed_bytes(&list).expect("a list that was read");
         ListToText { list: Lent::copy(&list), out: Lent::zeros(bytes) }
     }

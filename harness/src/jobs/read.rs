@@ -2,7 +2,7 @@
 
 use super::Calls;
 use crate::bench::{rows, Timed};
-use crate::checks::{late_opening, must, starts};
+use crate::checks::{gives_up, late_opening, must, starts};
 use crate::conditions::{bad_byte, too_long};
 use crate::counts::{Count, Counts};
 use crate::generate::provoked::{TWO_16, TWO_32};
@@ -58,6 +58,7 @@ impl Job for Read {
     fn check(&self, left: &Read, outcome: Outcome, random: &mut Random) -> Result<(), String> {
         let Made(made) = outcome else { return Ok(()) };
         starts(&self.cdm, left.list(made))?;
+        gives_up(&self.cdm, &self.cds, left.list(made))?;
         late_opening(&self.cdm, &self.cds, random)
     }
 
@@ -100,9 +101,9 @@ impl Job for Read {
     }
 
     fn timed() -> Vec<Timed<Read>> {
-        let timed = |(name, rows): (_, Vec<Vec<u8>>)| {
+        let timed = |(name, wait, rows): (_, _, Vec<Vec<u8>>)| {
             let columns = rows.concat().len();
-            let cases = rows.iter().map(|cdm| Read::answered_by_one_slave(cdm)).collect();
+            let cases = rows.iter().map(|cdm| Read::answered_by_one_slave(wait, cdm)).collect();
             Timed::new("read", name, columns, cases)
         };
         rows::timed(1).into_iter().map(timed).collect()
@@ -119,11 +120,11 @@ impl Read {
         ENTRY_BYTES * list(&self.cdm, &self.cds, self.opening).len()
     }
 
-    fn answered_by_one_slave(cdm: &[u8]) -> Read {
+    fn answered_by_one_slave(wait: u8, cdm: &[u8]) -> Read {
         Read {
             opening: 0,
             cdm: Lent::copy(cdm),
-            cds: Lent::copy(&rows::answered(cdm)),
+            cds: Lent::copy(&rows::answered(wait, cdm)),
             out: Lent::zeros(ENTRY_BYTES * cdm.len()),
             answers: Answers::Honest,
             first: 0,
