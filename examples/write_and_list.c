@@ -1,5 +1,5 @@
 /* A master reads register 44 (hexadecimal) of the only slave of a chain and then writes 5B to it; what was recorded is read back as a
- * list and printed, opened again at the frame of the write, and carried to text and back. One text and one call are refused. Then channel
+ * list and printed, opened again at the frame of the write, and carried to text and back. One text and two calls are refused. Then channel
  * places in a chain of three. Every answer is checked: the program ends with 1 where one is not as expected. */
 #include "../include/biss.h"
 
@@ -66,34 +66,38 @@ static void carry_rows(const uint8_t *cdm, const uint8_t *cds, size_t columns) {
     free(text), free(cdm_back), free(cds_back);
 }
 
-/* A right above 3, the last of the chain's: refusal 4, and nothing lent has changed. */
-static void refused_run(const uint8_t *cdm, size_t columns, uint8_t *registers, uint8_t *rights) {
-    uint8_t *cds = lent(columns, 7);
+/* Two waiting numbers for one slave: refusal 18. A right above 3, the last of the chain's, goes before it: refusal 4. Nothing lent has
+ * changed. */
+static void refused_runs(const uint8_t *cdm, size_t columns, uint8_t *registers, uint8_t *rights) {
+    uint8_t *cds = lent(columns, 7), *waits = lent(2, 0);
+    uint64_t answer = biss_run(1, rights, 128, waits, 2, registers, 128, cdm, columns, cds, columns);
+    expect(biss_is_refused(answer) && biss_refusal(answer) == 18, "two waits for one slave are refusal 18");
+    printf("two waits for one slave: refusal %u\n", biss_refusal(answer));
     rights[127] = 4;
-    uint64_t answer = biss_run(1, rights, 128, registers, 128, cdm, columns, cds, columns);
+    answer = biss_run(1, rights, 128, waits, 2, registers, 128, cdm, columns, cds, columns);
     expect(biss_is_refused(answer) && biss_refusal(answer) == 4, "a right above 3 is refusal 4");
     expect(cds[0] == 7 && cds[columns - 1] == 7 && registers[0x44] == 0x5B, "a refused call changes nothing");
     printf("a right above 3: refusal %u\n", biss_refusal(answer));
-    free(cds);
+    free(cds), free(waits);
 }
 
 int main(void) {
     const uint8_t byte = 0x5B;
     uint8_t *row = lent(4096, 0);
-    uint64_t read = biss_build_read(0, 0x44, 1, row, 4096), write = biss_build_write(0, 0x44, &byte, 1, row, 4096);
+    uint64_t read = biss_build_read(0, 0x44, 1, 0, row, 4096), write = biss_build_write(0, 0x44, &byte, 1, 0, row, 4096);
     expect(!biss_is_refused(read) && !biss_is_refused(write), "the read and the write are built");
     size_t columns = read + write;
-    uint8_t *cdm = lent(columns, 0), *cds = lent(columns, 0), *registers = lent(128, 0), *rights = lent(128, 3);
-    expect(biss_build_read(0, 0x44, 1, cdm, read) == read, "the read fits where it just fits");
-    expect(biss_build_write(0, 0x44, &byte, 1, cdm + read, write) == write, "and so does the write behind it");
-    expect(biss_run(1, rights, 128, registers, 128, cdm, columns, cds, columns) == columns, "the chain answers every column");
+    uint8_t *cdm = lent(columns, 0), *cds = lent(columns, 0), *registers = lent(128, 0), *rights = lent(128, 3), *waits = lent(1, 0);
+    expect(biss_build_read(0, 0x44, 1, 0, cdm, read) == read, "the read fits where it just fits");
+    expect(biss_build_write(0, 0x44, &byte, 1, 0, cdm + read, write) == write, "and so does the write behind it");
+    expect(biss_run(1, rights, 128, waits, 1, registers, 128, cdm, columns, cds, columns) == columns, "the chain answers every column");
     expect(registers[0x44] == 0x5B, "the register holds what was written");
     list_both(cdm, cds, columns);
     carry_rows(cdm, cds, columns);
-    refused_run(cdm, columns, registers, rights);
-    expect(biss_run(0, NULL, 0, NULL, 0, cdm, columns, cds, columns) == columns, "a chain of no slaves is a chain");
+    refused_runs(cdm, columns, registers, rights);
+    expect(biss_run(0, NULL, 0, NULL, 0, NULL, 0, cdm, columns, cds, columns) == columns, "a chain of no slaves is a chain");
     expect(biss_channel_of(0, 3) == 3 && biss_channel_of(2, 3) == 1, "the far slave of three has the third channel");
     expect(biss_channel_of(3, 3) == 0 && biss_refusal(biss_channel_of(8, 3)) == 10, "no slave has ID 3 there, and no chain ID 8");
-    free(row), free(cdm), free(cds), free(registers), free(rights);
+    free(row), free(cdm), free(cds), free(registers), free(rights), free(waits);
     return 0;
 }

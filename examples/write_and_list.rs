@@ -1,5 +1,5 @@
 //! A master reads register 44 (hexadecimal) of the only slave of a chain and then writes 5B to it; what was recorded is read back as a
-//! list and printed, opened again at the frame of the write, and carried to text and back. One text and one call are refused. Then
+//! list and printed, opened again at the frame of the write, and carried to text and back. One text and two calls are refused. Then
 //! channel places in a chain of three. Every answer is asserted.
 
 #[path = "../include/biss.rs"]
@@ -9,12 +9,13 @@ use biss::{ChannelPlace, Refusal, ENTRY_BYTES, LIST_HEADER_BYTES, LIST_LINE_BYTE
 
 fn main() {
     let mut row = [0; 4096];
-    let read = biss::build_read(0, 0x44, 1, &mut row).expect("the read is built");
+    let read = biss::build_read(0, 0x44, 1, 0, &mut row).expect("the read is built");
     let behind = &mut row[read..];
-    let columns = read + biss::build_write(0, 0x44, &[0x5B], behind).expect("the write is built");
+    let columns =
+        read + biss::build_write(0, 0x44, &[0x5B], 0, behind).expect("the write is built");
     let cdm = &row[..columns];
     let (mut cds, mut registers, mut rights) = (vec![0; columns], [0; 128], [3; 128]);
-    assert_eq!(biss::run(1, &rights, &mut registers, cdm, &mut cds), Ok(columns));
+    assert_eq!(biss::run(1, &rights, &[0], &mut registers, cdm, &mut cds), Ok(columns));
     assert_eq!(registers[0x44], 0x5B);
 
     let mut list = [0; 5 * ENTRY_BYTES];
@@ -44,8 +45,11 @@ fn main() {
     assert_eq!(biss::text_to_rows(&text, &mut cdm_back, &mut cds_back), Ok(columns));
     assert_eq!((cdm, &cds), (&cdm_back[..], &cds_back));
 
+    let refused = biss::run(1, &rights, &[0, 0], &mut registers, cdm, &mut cds);
+    assert_eq!(refused, Err(Refusal::Number(18)));
+    println!("two waits for one slave: refusal 18");
     rights[127] = 4;
-    let refused = biss::run(1, &rights, &mut registers, cdm, &mut cds);
+    let refused = biss::run(1, &rights, &[0, 0], &mut registers, cdm, &mut cds);
     assert_eq!(refused, Err(Refusal::Number(4)));
     println!("a right above 3: refusal 4");
 

@@ -10,7 +10,7 @@
  *    4  a right above 3                               15  tab missing
  *    5  a row of more than 4,096 columns              16  line feed missing
  *    6  two rows of different length                  17  the text ends inside a line
- *    7  a row byte that is not 0 or 1
+ *    7  a row byte that is not 0 or 1                18  waits not one byte per slave
  *    8  opening column greater than the length
  *    9  the result needs more room than was lent
  *   10  id over 7, address over 127, CMD over 3, count 0 or over 64, or address + count over 128
@@ -21,8 +21,11 @@
  *
  * A buffer is a pointer and its length in bytes. It has to be as long as is said, and a buffer that a call writes must not overlap
  * another of the same call: this is all that a caller has to see to, for C cannot check it. A pointer of length 0 is not followed.
- * A row is one byte a column, 0 or 1; registers and rights are 128 bytes a slave, the far slave first; an entry is its kind,
- * column, start, ID, address and value: one byte each, column and start two, high byte first. Texts are not ended by a zero byte. */
+ * A row is one byte a column, 0 or 1; registers and rights are 128 bytes a slave, waits one, the far slave first; an entry is its kind,
+ * column, start, ID, address and value: one byte each, column and start two, high byte first. Texts are not ended by a zero byte.
+ *
+ * A slave's waiting number, 0 to 255, says how often it answers 0 to S = 1 before it confirms S with 1, while the master repeats S: at
+ * every byte of a read, and at every byte of a write but the first. A master that sends 0 instead gives up, and the access has ended. */
 #ifndef BISS_H
 #define BISS_H
 
@@ -52,24 +55,28 @@ enum { BISS_REST = 14 };
 /* The bytes of the header of a list's text, and the most that the line of an entry has. */
 enum { BISS_LIST_HEADER_BYTES = 36, BISS_LIST_LINE_BYTES = 33 };
 
-/* Builds the master row of a read of `count` registers of the slave `id`, from `address` on, into the first bytes of `out`.
- * Refusals 10, 9. */
-uint64_t biss_build_read(uint8_t id, uint8_t address, size_t count, uint8_t *out, size_t out_length);
+/* Builds the master row of a read of `count` registers of the slave `id`, from `address` on, into the first bytes of `out`. S is repeated
+ * `wait` times at every byte, for a slave with this waiting number: 32 columns, and 14 + wait a byte. Refusals 10, 5, 9. */
+uint64_t biss_build_read(uint8_t id, uint8_t address, size_t count, uint8_t wait, uint8_t *out, size_t out_length);
 
-/* Builds the master row of a write of `bytes` to the registers of the slave `id`, from `address` on. Refusals 10, 9. */
-uint64_t biss_build_write(uint8_t id, uint8_t address, const uint8_t *bytes, size_t bytes_length, uint8_t *out, size_t out_length);
+/* Builds the master row of a write of `bytes` to the registers of the slave `id`, from `address` on. S is repeated `wait` times at every
+ * byte but the first: 32 columns, 14 for the first byte and 14 + wait for each other. Refusals 10, 5, 9. */
+uint64_t biss_build_write(uint8_t id, uint8_t address, const uint8_t *bytes, size_t bytes_length, uint8_t wait, uint8_t *out,
+                          size_t out_length);
 
 /* Builds the master row of the command `cmd` to the slaves whose bits are set in `ids`: the highest bit, 0x80, is the slave with ID 0,
  * the lowest the one with ID 7. With `ids` 0 it is a broadcast, to every slave. Refusals 10, 9. */
 uint64_t biss_build_command(uint8_t ids, uint8_t cmd, uint8_t *out, size_t out_length);
 
-/* Runs a chain of slaves from power-on over the master row `cdm`: the answers go into `cds`, which is as long as `cdm`, and the
- * registers are left as the chain leaves them. Refusals 1 to 7. */
-uint64_t biss_run(size_t slaves, const uint8_t *rights, size_t rights_length, uint8_t *registers, size_t registers_length,
-                  const uint8_t *cdm, size_t cdm_length, uint8_t *cds, size_t cds_length);
+/* Runs a chain of slaves with the waiting numbers `waits` from power-on over the master row `cdm`: the answers go into `cds`, which is as
+ * long as `cdm`, and the registers are left as the chain leaves them. Refusals 1, 2, 3, 4, 18, 5, 6, 7. */
+uint64_t biss_run(size_t slaves, const uint8_t *rights, size_t rights_length, const uint8_t *waits, size_t waits_length,
+                  uint8_t *registers, size_t registers_length, const uint8_t *cdm, size_t cdm_length, uint8_t *cds,
+                  size_t cds_length);
 
 /* Lists the entries that two recorded rows show to a reader that opens at the column `opening`, into the first bytes of `out`:
- * BISS_ENTRY_BYTES an entry. Refusals 5 to 9. */
+ * BISS_ENTRY_BYTES an entry. The reader knows no waiting numbers: it waits while the master repeats S, and lists a `mute` (kind 9) where
+ * the master gives up after a 1 that was not confirmed, in the column of its 0. Refusals 5 to 9. */
 uint64_t biss_read(const uint8_t *cdm, size_t cdm_length, const uint8_t *cds, size_t cds_length, size_t opening, uint8_t *out,
                    size_t out_length);
 

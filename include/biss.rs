@@ -4,7 +4,7 @@
 /// Why a call refused; then no lent byte has changed. It is shown in the words of the table in biss.h.
 #[derive(Clone, Copy, PartialEq, Eq, Debug)]
 pub enum Refusal {
-    /// A number of the table in biss.h below 13.
+    /// A number of the table in biss.h that tells no line: all but 13 to 17.
     Number(u8),
     /// 13 to 17: what is wrong with a text, at this line, counted from 1, and this byte of it, counted from 0.
     InText { number: u8, line: usize, byte: usize },
@@ -49,6 +49,7 @@ fn words(number: u8) -> &'static str {
         15 => "tab missing",
         16 => "line feed missing",
         17 => "the text ends inside a line",
+        18 => "waits not one byte per slave",
         _ => "a number that the table does not have",
     }
 }
@@ -96,6 +97,7 @@ mod calls {
             id: u8,
             address: u8,
             count: usize,
+            wait: u8,
             out: *mut u8,
             out_length: usize,
         ) -> u64;
@@ -104,6 +106,7 @@ mod calls {
             address: u8,
             bytes: *const u8,
             bytes_length: usize,
+            wait: u8,
             out: *mut u8,
             out_length: usize,
         ) -> u64;
@@ -112,6 +115,8 @@ mod calls {
             slaves: usize,
             rights: *const u8,
             rights_length: usize,
+            waits: *const u8,
+            waits_length: usize,
             registers: *mut u8,
             registers_length: usize,
             cdm: *const u8,
@@ -170,17 +175,18 @@ pub fn answer(coded: u64) -> Answer {
     Err(if line == 0 { Refusal::Number(number) } else { Refusal::InText { number, line, byte } })
 }
 
-pub fn build_read(id: u8, address: u8, count: usize, out: &mut [u8]) -> Answer {
-    answer(unsafe { calls::biss_build_read(id, address, count, out.as_mut_ptr(), out.len()) })
+pub fn build_read(id: u8, address: u8, count: usize, wait: u8, out: &mut [u8]) -> Answer {
+    answer(unsafe { calls::biss_build_read(id, address, count, wait, out.as_mut_ptr(), out.len()) })
 }
 
-pub fn build_write(id: u8, address: u8, bytes: &[u8], out: &mut [u8]) -> Answer {
+pub fn build_write(id: u8, address: u8, bytes: &[u8], wait: u8, out: &mut [u8]) -> Answer {
     answer(unsafe {
         calls::biss_build_write(
             id,
             address,
             bytes.as_ptr(),
             bytes.len(),
+            wait,
             out.as_mut_ptr(),
             out.len(),
         )
@@ -194,6 +200,7 @@ pub fn build_command(ids: u8, cmd: u8, out: &mut [u8]) -> Answer {
 pub fn run(
     slaves: usize,
     rights: &[u8],
+    waits: &[u8],
     registers: &mut [u8],
     cdm: &[u8],
     cds: &mut [u8],
@@ -203,6 +210,8 @@ pub fn run(
             slaves,
             rights.as_ptr(),
             rights.len(),
+            waits.as_ptr(),
+            waits.len(),
             registers.as_mut_ptr(),
             registers.len(),
             cdm.as_ptr(),

@@ -22,11 +22,12 @@ const BYTE: u64 = 64;
 const LAST_LINE: usize = (1 << 53) - 1;
 
 /// Codes put together by hand, and what they say.
-const CODES: [(u64, Answer); 10] = [
+const CODES: [(u64, Answer); 11] = [
     (0, Ok(0)),
     (46, Ok(46)),
     (REFUSED - 1, Ok((1 << 63) - 1)),
     (REFUSED + 1, Err(Refusal::Number(1))),
+    (REFUSED + 18, Err(Refusal::Number(18))),
     (REFUSED + 63, Err(Refusal::Number(63))),
     (REFUSED + LINE + 13, in_text(13, 1, 0)),
     (REFUSED + 47 * LINE + 2 * BYTE + 14, in_text(14, 47, 2)),
@@ -49,7 +50,7 @@ fn codes(card: &mut Card) {
 
 /// The wrapper has the words of the table in biss.h; 11 is given no more.
 fn words(card: &mut Card) {
-    for number in 1..=17 {
+    for number in 1..=18 {
         let row = format!(" {number:>2}  {}", Refusal::Number(number));
         card.same(&row, BISS_H.contains(&row), number != 11);
     }
