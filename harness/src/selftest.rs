@@ -1,6 +1,7 @@
-//! The bench card of paper 01, tried on the model, and starts, judged by the
-//! conditions.
+//! The bench card of paper 01, tried on the model, starts, judged by the conditions,
+//! and slow memories.
 
+mod waits;
 mod wrapper;
 
 use crate::conditions::has_its_start;
@@ -44,6 +45,7 @@ pub fn selftest() -> (usize, Vec<String>) {
     texts(&mut card);
     long_texts(&mut card);
     lists(&mut card);
+    waits::tried(&mut card);
     wrapper::tried(&mut card);
     (card.tried, card.failed)
 }
