@@ -24,7 +24,7 @@ use std::process::ExitCode;
 
 const USUAL_CASES: u64 = 600_000;
 /// From the folder that harness/run starts in.
-const CRATES: &str = "../crates";
+const ROOT: &str = "..";
 
 const HELP: &str = "\
 harness                   the bench card on the model, every channel place, then
@@ -34,8 +34,9 @@ harness seed S            one case, shown
 harness watch FIRST N     N cases on one thread, each seed printed before it
                           runs: the last one printed is the one that crashed
 harness bench             times model against library
-harness programs [write]  the files of the indexing program's crates held to the
-                          model, or written
+harness programs [write]  the files of the indexing program's crates and the
+                          recording among the examples held to the model, or
+                          written
 harness index PROGRAM N   the linked program on the named inputs and on the texts
                           of N seeds
 harness selftest          the bench card on the model, and the wrapper's words
@@ -44,8 +45,8 @@ harness --help            this text
 
 Exit status 0 if model and library never differ, the model keeps its own
 promises and every count of entries, frames opened again, refusals, faults,
-phases and ways to make a case is at least 100 (the last not asked of soak under
-600, seed and watch).";
+phases, waits and ways to make a case is at least 100 (the last not asked of soak
+under 600, seed and watch).";
 
 fn selftest() -> bool {
     let (tried, failed) = selftest::selftest();
@@ -70,8 +71,8 @@ fn obey(words: &[&str]) -> Option<bool> {
         ["seed", seed] => one_seed(seed.parse().ok()?),
         ["watch", first, cases] => watch(first.parse().ok()?, cases.parse().ok()?),
         ["selftest"] => selftest(),
-        ["programs"] => programs::agree(Path::new(CRATES)),
-        ["programs", "write"] => programs::write(Path::new(CRATES)),
+        ["programs"] => programs::agree(Path::new(ROOT)),
+        ["programs", "write"] => programs::write(Path::new(ROOT)),
         ["index", program, texts] => programs::linked(program, texts.parse().ok()?),
         ["bench"] => {
             bench::bench_all();

@@ -1,6 +1,6 @@
 //! The indexing program: the inputs it is tried on by name, with the program
-//! crates that hold some of them, and the linked program on these and on texts
-//! from seeds.
+//! crates and the example that hold some of them, and the linked program on these and
+//! on texts from seeds.
 
 use crate::generate::texts::{each, recorded_text, IN_COLUMN, IN_HEADER};
 use crate::generate::Random;
@@ -39,10 +39,33 @@ fn held() -> Vec<Input> {
     ]
 }
 
+/// A recording of a slow memory, which `examples/` holds: a slave that waits 3 is asked
+/// for two bytes, then for one by a master that repeats S only twice.
+fn slow_memory() -> Input {
+    let mut row = vec![0; 32 + 2 * (14 + 3) + 32 + 14 + 2 + 1];
+    let (first, second) = row.split_at_mut(32 + 2 * (14 + 3));
+    assert_eq!(build_read(0, 0x44, 2, 3, first), Made(first.len()));
+    assert_eq!(build_read(0, 0x44, 1, 2, second), Made(second.len() - 1));
+    let input = input("a slow memory", None, text_of_slave(3, 1, &row));
+    let wanted = [
+        "event\tcolumn\tstart\tid\taddress\tvalue",
+        "lock\t23\t14\t-\t-\t1",
+        "read\t47\t14\t0\t68\t90",
+        "read\t64\t14\t0\t69\t1",
+        "end\t66\t14\t-\t-\t-",
+        "lock\t89\t80\t-\t-\t1",
+        "mute\t101\t80\t0\t68\t-",
+        "end\t114\t80\t-\t-\t-\n",
+    ];
+    assert_eq!(input.report(), wanted.join("\n").as_bytes());
+    input
+}
+
 /// The inputs that the linked program alone is tried on.
 fn named() -> Vec<Input> {
     let two_frames = [bench_row(14, 14), bench_row(14, 1)].concat();
     let mut inputs = vec![
+        slow_memory(),
         input("the card's run, its last column off: no end", None, text(&bench_row(14, 0))),
         input("thirteen zeros before S: nobody is at rest", None, text(&bench_row(13, 14))),
         input("an empty input", None, Vec::new()),
@@ -99,13 +122,19 @@ fn busy_row(columns: usize) -> Vec<u8> {
     row
 }
 
-/// A master row and the answers of one slave, all rights 3, register 0x44
+/// A master row and the answers of one slave that does not wait, register 0x44
 /// holding 0x5A and the others 0, as text.
 fn text(cdm: &[u8]) -> Vec<u8> {
+    text_of_slave(0, 0, cdm)
+}
+
+/// The same for a slave that waits so long, and whose register 0x45 holds this; all
+/// rights are 3.
+fn text_of_slave(wait: u8, behind: u8, cdm: &[u8]) -> Vec<u8> {
     let mut registers = vec![0; 128];
-    registers[0x44] = 0x5A;
+    registers[0x44..0x46].copy_from_slice(&[0x5A, behind]);
     let mut cds = vec![0; cdm.len()];
-    assert_eq!(run(1, &[3; 128], &[0], &mut registers, cdm, &mut cds), Made(cdm.len()));
+    assert_eq!(run(1, &[3; 128], &[wait], &mut registers, cdm, &mut cds), Made(cdm.len()));
     let mut text = vec![0; 8 + 4 * cdm.len()];
     assert_eq!(rows_to_text(cdm, &cds, &mut text), Made(text.len()));
     text
@@ -160,8 +189,8 @@ impl Input {
     }
 
     /// The files beside a program crate's sources; none where it would be empty.
-    fn files(&self, crates: &Path) -> Vec<(PathBuf, Vec<u8>)> {
-        let folder = crates.join(&self.name);
+    fn files(&self, root: &Path) -> Vec<(PathBuf, Vec<u8>)> {
+        let folder = root.join("crates").join(&self.name);
         let args = self.opening.map_or(String::new(), |column| format!("{column}\n"));
         vec![
             (folder.join("stdin"), self.stdin.clone()),
@@ -212,25 +241,33 @@ impl Input {
     }
 }
 
-/// Writes the files of every program crate.
-pub fn write(crates: &Path) -> bool {
-    for (path, bytes) in held().iter().flat_map(|input| input.files(crates)) {
+/// The files of every program crate, and the recording among the examples.
+fn files(root: &Path) -> Vec<(PathBuf, Vec<u8>)> {
+    let recording = (root.join("examples/slow_memory.rows"), slow_memory().stdin);
+    held().iter().flat_map(|input| input.files(root)).chain([recording]).collect()
+}
+
+/// Writes these files.
+pub fn write(root: &Path) -> bool {
+    for (path, bytes) in files(root) {
         if bytes.is_empty() {
             let _ = fs::remove_file(&path);
         } else {
-            fs::write(&path, bytes).expect("the crate's folder is there");
+            fs::write(&path, bytes).expect("its folder is there");
         }
     }
     true
 }
 
-/// Whether every program crate reads and prints what the model says.
-pub fn agree(crates: &Path) -> bool {
-    let files: Vec<_> = held().iter().flat_map(|input| input.files(crates)).collect();
+/// Whether every program crate reads and prints what the model says, and the recording
+/// is the model's.
+pub fn agree(root: &Path) -> bool {
+    let files = files(root);
     let wrong: Vec<_> =
         files.iter().filter(|(path, bytes)| fs::read(path).unwrap_or_default() != *bytes).collect();
     wrong.iter().for_each(|(path, _)| println!("PROGRAM {} is not the model's", path.display()));
-    println!("program crates: {} files as the model has them, {} not", files.len(), wrong.len());
+    let (all, wrong_ones) = (files.len(), wrong.len());
+    println!("program crates and a recording: {all} files, {wrong_ones} not as the model has them");
     wrong.is_empty()
 }
 
