@@ -95,8 +95,7 @@ fn kind_name(kind: u8) -> &'static str {
 
 fn of_byte(is_writing: bool, wait: Option<u8>) -> String {
     let access = if is_writing { "write" } else { "read" };
-    let wait = wait.map_or("other".to_string(), |wait| wait.to_string());
-    format!("{access}, wait {wait}")
+    format!("{access}, wait {}", waits::told(wait))
 }
 
 impl fmt::Display for Count {

@@ -1,9 +1,8 @@
 //! The counts as a table.
 
-use super::waits::{BYTES, WAITS};
+use super::waits::{told, BYTES, REPEATED, WAITS};
 use super::{kind_name, kinds, Count, Counts, Part, LOCKS, PARTS};
 use crate::case::Listed;
-use crate::generate::frames::REPEATS;
 use crate::generate::recordings::{Answers, ANSWERS};
 use crate::generate::texts::Faults;
 use crate::jobs::JOBS;
@@ -58,20 +57,19 @@ impl Counts {
     fn table_of_waits(&self) -> String {
         let row = |name: &str, cells: Vec<String>| {
             let cells: String = cells.iter().map(|cell| format!("{cell:>10}")).collect();
-            format!("{name:<16}{cells}\n")
+            format!("{name:<20}{cells}\n")
         };
         let times = |count| self.of(count).to_string();
-        let waits = WAITS.map(|wait| wait.map_or("other".to_string(), |wait| wait.to_string()));
-        let mut text = format!("\n{}", row("waits", waits.into()));
+        let mut text = format!("\n{}", row("waits", WAITS.map(told).into()));
         for (name, is_writing) in [("read", false), ("write", true)] {
             let confirmed = WAITS.map(|wait| times(Count::Confirmed(is_writing, wait)));
             let given_up = WAITS.map(|wait| times(Count::GivenUp(is_writing, wait)));
-            text += &row(&format!("   {name}, 1"), confirmed.into());
-            text += &row(&format!("   {name}, mute"), given_up.into());
+            text += &row(&format!("   {name} confirmed"), confirmed.into());
+            text += &row(&format!("   {name} given up"), given_up.into());
         }
         let kinds = BYTES.map(|kind| kind as u8);
         text += &row("master repeats", kinds.map(|kind| kind_name(kind).to_string()).into());
-        for repeats in REPEATS {
+        for (repeats, _) in REPEATED {
             let became = kinds.map(|kind| times(Count::Repeated(repeats, kind)));
             text += &row(&format!("   {repeats:?}"), became.into());
         }

@@ -2,7 +2,7 @@
 //! as often as its slave waits.
 
 use super::{Count, Counts};
-use crate::generate::frames::{Repeats, REPEATS};
+use crate::generate::frames::Repeats;
 use crate::generate::rows::Known;
 use model::entry::{Entry, Kind};
 
@@ -12,9 +12,24 @@ pub const WAITS: [Option<u8>; 5] = [Some(0), Some(1), Some(3), Some(255), None];
 /// What becomes of a byte.
 pub const BYTES: [Kind; 4] = [Kind::Read, Kind::Written, Kind::WriteBad, Kind::Mute];
 
+/// What can become of it where the master repeats S so. Nothing goes wrong where it does
+/// exactly; where it does too little at every byte, none is read.
+pub const REPEATED: [(Repeats, &[Kind]); 5] = [
+    (Repeats::Exactly, &[Kind::Read, Kind::Written]),
+    (Repeats::TooLittle, &[Kind::Written, Kind::WriteBad, Kind::Mute]),
+    (Repeats::TooMuch, &BYTES),
+    (Repeats::OnceTooLittle, &BYTES),
+    (Repeats::OnceTooMuch, &BYTES),
+];
+
 /// Columns of a frame, counted from S: W, and where the first byte of a write ends.
 const W: usize = 17;
 const FIRST_WRITTEN: usize = 30;
+
+/// Such a waiting number, as it is told.
+pub fn told(wait: Option<u8>) -> String {
+    wait.map_or("other".to_string(), |wait| wait.to_string())
+}
 
 fn counted_apart(wait: u8) -> Option<u8> {
     Some(wait).filter(|_| WAITS.contains(&Some(wait)))
@@ -40,17 +55,15 @@ impl Counts {
     }
 }
 
-/// A slave that waits 0 is never given up, and nothing goes wrong with a master that
-/// repeats S exactly.
+/// A slave that waits 0 is never given up.
 pub fn expected() -> Vec<Count> {
     let mut all = Vec::new();
     for is_writing in [false, true] {
         all.extend(WAITS.map(|wait| Count::Confirmed(is_writing, wait)));
         all.extend(WAITS[1..].iter().map(|&wait| Count::GivenUp(is_writing, wait)));
     }
-    let reachable = |repeats| if repeats == Repeats::Exactly { &BYTES[..2] } else { &BYTES };
-    for repeats in REPEATS {
-        all.extend(reachable(repeats).iter().map(|&kind| Count::Repeated(repeats, kind as u8)));
+    for (repeats, kinds) in REPEATED {
+        all.extend(kinds.iter().map(|&kind| Count::Repeated(repeats, kind as u8)));
     }
     all
 }

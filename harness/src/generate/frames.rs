@@ -16,16 +16,15 @@ const FIRST_BYTE: usize = 18;
 const FEW_REPEATS: u8 = 20;
 
 /// How often a master repeats S at the bytes that wait, against the waiting number of
-/// the slave that it addresses.
+/// the slave that it addresses: the same at all of them, or at one of them otherwise.
 #[derive(Clone, Copy, PartialEq, Eq, PartialOrd, Ord, Debug)]
 pub enum Repeats {
     Exactly,
-    /// At one byte, or at all.
     TooLittle,
     TooMuch,
+    OnceTooLittle,
+    OnceTooMuch,
 }
-
-pub const REPEATS: [Repeats; 3] = [Repeats::Exactly, Repeats::TooLittle, Repeats::TooMuch];
 
 /// A frame's columns from S on, and what is known of it.
 pub struct Frame {
@@ -41,7 +40,7 @@ pub struct Frame {
 /// A frame for slaves with these waiting numbers.
 pub fn frame(random: &mut Random, waits: &[u8]) -> Frame {
     let mut frame = if random.one_in(5) { command(random) } else { register_access(random, waits) };
-    if random.one_in(8) {
+    if random.one_in(4) {
         frame.repeat_otherwise(random);
     }
     if random.one_in(6) {
@@ -140,11 +139,11 @@ impl Frame {
         if random.one_in(2) {
             let fewer = random.between(1, self.wait + 1);
             self.bits.drain(at..at + random.pick(&[1, fewer]));
-            self.repeats = Some(Repeats::TooLittle);
+            self.repeats = Some(Repeats::OnceTooLittle);
         } else {
             let more = vec![1; random.pick(&[1, 1, 2, 13, 14])];
             self.bits.splice(at..at, more);
-            self.repeats = Some(Repeats::TooMuch);
+            self.repeats = Some(Repeats::OnceTooMuch);
         }
     }
 
