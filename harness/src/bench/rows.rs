@@ -14,12 +14,14 @@ const SEED: u64 = 1;
 const WAIT: u8 = 3;
 
 /// Rows by their name, those of one name in turn, and the waiting number that they are
-/// built for; the varied ones and those that wait are for so many slaves.
+/// built for; the varied ones are for so many slaves, one slave waits too.
 pub fn timed(slaves: usize) -> Vec<(&'static str, u8, Vec<Vec<u8>>)> {
     let plain = |columns| [("dense", 0, vec![dense(columns)]), ("idle", 0, vec![vec![0; columns]])];
     let mut all = LENGTHS.map(plain).concat();
     all.push(("varied", 0, varied(slaves, 0)));
-    all.push(("waits", WAIT, varied(slaves, WAIT)));
+    if slaves == 1 {
+        all.push(("waits", WAIT, varied(slaves, WAIT)));
+    }
     all
 }
 
