@@ -98,7 +98,7 @@ fn repeats(random: &mut Random, wait: u8) -> (u8, Repeats) {
 
 fn byte_count(random: &mut Random, wait: u8) -> usize {
     match random.below(100) {
-        _ if wait > FEW_REPEATS => random.between(1, 3),
+        _ if wait > FEW_REPEATS => random.between(1, 2),
         0 => random.between(20, 64),
         1..=6 => random.between(5, 20),
         7..=50 => random.between(2, 5),
