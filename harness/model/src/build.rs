@@ -73,7 +73,7 @@ pub fn build_read(id: u8, address: u8, count: usize, wait: u8, out: &mut [u8]) -
     Made(pen.column)
 }
 
-/// "So not at the first of a write."
+/// "At every byte that waits, so not at the first of a write."
 pub fn build_write(id: u8, address: u8, bytes: &[u8], wait: u8, out: &mut [u8]) -> Outcome {
     if is_bad_access(id, address, bytes.len()) {
         return Refused(10);

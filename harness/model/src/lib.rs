@@ -1,4 +1,5 @@
-//! Paper 01 as a plain program. Each file holds one part of the paper.
+//! Paper 01, with what paper 02 has changed, as a plain program. Each file holds one
+//! part of the paper.
 
 pub mod account;
 pub mod build;

@@ -165,7 +165,7 @@ impl<'a> Slave<'a> {
         w
     }
 
-    /// "In a write the first byte does not" wait.
+    /// "Every byte of a read waits; in a write the first byte does not, later ones do."
     fn wait_at(&self, access: Access) -> u8 {
         if access.writing && access.passed == 0 {
             return 0;

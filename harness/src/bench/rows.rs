@@ -10,8 +10,8 @@ pub const LENGTHS: [usize; 2] = [46, 4096];
 pub const VARIED_ROWS: usize = 64;
 const SEED: u64 = 1;
 
-/// The waiting number of the slaves that the rows named for it are timed with.
-const WAIT: u8 = 3;
+/// The waiting number of the rows that are named for waits.
+pub const WAIT: u8 = 3;
 
 /// Rows by their name, those of one name in turn, and the waiting number that they are
 /// built for; the varied ones are for so many slaves, one slave waits too.

@@ -109,7 +109,9 @@ fn byte_count(random: &mut Random, wait: u8) -> usize {
 impl Frame {
     fn built(bytes: usize, writing: bool, wait: u8, build: impl Fn(&mut [u8]) -> Outcome) -> Frame {
         let mut row = vec![0; MOST_COLUMNS];
-        let Made(columns) = build(&mut row) else { panic!("the arguments are within the limits") };
+        let Made(columns) = build(&mut row) else {
+            unreachable!("the arguments are within the limits")
+        };
         let bits = row[ZEROS_TO_REST..columns].to_vec();
         let mut frame = Frame { bits, bytes, writing, wait: usize::from(wait), repeats: None };
         frame.repeats = (!frame.waits_at().is_empty()).then_some(Repeats::Exactly);

@@ -1,5 +1,6 @@
 //! What a built read and a built write are asked for alike.
 
+use crate::bench::rows::WAIT;
 use crate::checks::must;
 use crate::generate::provoked::{TWO_16, TWO_32};
 use crate::generate::{Marks, Provoked, Random};
@@ -18,7 +19,7 @@ pub const MARKS: [&str; 7] =
     ["wait 0", "wait 1", "wait 3", "wait 255", "another wait", "4096 columns", "just past 4096"];
 
 /// What is timed: bytes, waiting number and the name of such rows.
-pub const TIMED: [(usize, u8, &str); 3] = [(1, 0, "-"), (64, 0, "-"), (64, 3, "waits")];
+pub const TIMED: [(usize, u8, &str); 3] = [(1, 0, "-"), (64, 0, "-"), (64, WAIT, "waits")];
 
 #[derive(Clone, Copy)]
 pub struct Access {
