@@ -143,7 +143,7 @@ impl Frame {
             self.bits.drain(at..at + random.pick(&[1, fewer]));
             self.repeats = Some(Repeats::OnceTooLittle);
         } else {
-            let more = vec![1; random.pick(&[1, 1, 2, 13, 14])];
+            let more = vec![1; random.pick(&[1, 1, 2, 13, 14, 15])];
             self.bits.splice(at..at, more);
             self.repeats = Some(Repeats::OnceTooMuch);
         }
