@@ -28,20 +28,32 @@ const ONE_BYTE: u64 = 64;
 // The highest line that has room, 2 ^ 53 - 1: a text of so many lines has 2 ^ 55 bytes.
 const LAST_LINE: u64 = 9007199254740991;
 
-// The master row of a read of `count` registers of the slave `id`, from `address` on.
+// The master row of a read of `count` registers of the slave `id`, whose waiting number is `wait`, from `address` on.
 #[no_mangle]
-pub extern "C" fn biss_build_read(id: u8, address: u8, count: usize, out: &mut [u8]) -> u64
-    ensures { λ r. ⌜ Coded r (λ o. Built (Request.read id address count) (now (out .entry)) o (now (out .exit))) ⌝ }
+pub extern "C" fn biss_build_read(
+    id: u8,
+    address: u8,
+    count: usize,
+    wait: u8,
+    out: &mut [u8],
+) -> u64
+    ensures { λ r. ⌜ Coded r (λ o. Built (Request.read id address count wait) (now (out .entry)) o (now (out .exit))) ⌝ }
 {
-    coded(build::build_read(id, address, count, out))
+    coded(build::build_read(id, address, count, wait, out))
 }
 
-// The master row of a write of `bytes` to the registers of the slave `id`, from `address` on.
+// The master row of a write of `bytes` to the registers of the slave `id`, whose waiting number is `wait`, from `address` on.
 #[no_mangle]
-pub extern "C" fn biss_build_write(id: u8, address: u8, bytes: &[u8], out: &mut [u8]) -> u64
-    ensures { λ r. ⌜ Coded r (λ o. Built (Request.write id address (now (bytes .entry))) (now (out .entry)) o (now (out .exit))) ⌝ }
+pub extern "C" fn biss_build_write(
+    id: u8,
+    address: u8,
+    bytes: &[u8],
+    wait: u8,
+    out: &mut [u8],
+) -> u64
+    ensures { λ r. ⌜ Coded r (λ o. Built (Request.write id address (now (bytes .entry)) wait) (now (out .entry)) o (now (out .exit))) ⌝ }
 {
-    coded(build::build_write(id, address, bytes, out))
+    coded(build::build_write(id, address, bytes, wait, out))
 }
 
 // The master row of a command.
@@ -57,13 +69,14 @@ pub extern "C" fn biss_build_command(ids: u8, cmd: u8, out: &mut [u8]) -> u64
 pub extern "C" fn biss_run(
     slaves: usize,
     rights: &[u8],
+    waits: &[u8],
     registers: &mut [u8],
     cdm: &[u8],
     cds: &mut [u8],
 ) -> u64
-    ensures { λ r. ⌜ Coded r (λ o. Ran slaves (now (rights .entry)) (now (registers .entry)) (now (cdm .entry)) (now (cds .entry)) o (now (registers .exit)) (now (cds .exit))) ⌝ }
+    ensures { λ r. ⌜ Coded r (λ o. Ran slaves (now (rights .entry)) (now (waits .entry)) (now (registers .entry)) (now (cdm .entry)) (now (cds .entry)) o (now (registers .exit)) (now (cds .exit))) ⌝ }
 {
-    coded(run::run(slaves, rights, registers, cdm, cds))
+    coded(run::run(slaves, rights, waits, registers, cdm, cds))
 }
 
 // The entries that two recorded rows show, from an opening column on.

@@ -1,4 +1,4 @@
--- What is proved of build, beside the proofs of its functions: bits as columns, the rows by their parts, what refusal 10 lets through,
+-- What is proved of build, beside the proofs of its functions: columns laid, the rows by their parts, what refusal 10 lets through,
 -- the two ends of a call, and that its promise has one result.
 pub mod Columns
 pub mod Rows

@@ -34,13 +34,13 @@ use Rattle.read.proofs.Ends.{rows-good, not-refused}
 use Rattle.demands.specs.Lent.{areBytes}
 use Rattle.demands.proofs.Chains.{memories-bytes, registers-back, replay-length}
 
-module _ {slaves c : ℕ} {rights registers cdm cds registers′ cds′ : List ℕ}
-    (ran : Ran slaves rights registers cdm cds (Made c) registers′ cds′) where
+module _ {slaves c : ℕ} {rights waits registers cdm cds registers′ cds′ : List ℕ}
+    (ran : Ran slaves rights waits registers cdm cds (Made c) registers′ cds′) where
   -- The chain's memories as they were lent.
   abbrev chain : List Memory
-  chain = memoriesOf slaves registers rights
+  chain = memoriesOf slaves registers rights waits
 
-  through : first (refusals slaves (length registers) rights cdm (length cds)) ≡ none
+  through : first (refusals slaves (length registers) rights (length waits) cdm (length cds)) ≡ none
   through = was-made (ran .ends) .0
 
   answers-long : length (map num (answersFrom chain (rowOf cdm))) ≡ length cdm
@@ -52,7 +52,7 @@ module _ {slaves c : ℕ} {rights registers cdm cds registers′ cds′ : List �
   pub row-bytes : cds′ ≡ map num (answersFrom chain (rowOf cdm))
   row-bytes =
       let row-after : cds′ ≡ lentAfter none (lent (map num (answersFrom chain (rowOf cdm))) cds) = cc (was-made (ran .ends) .2) in
-      row-after ∙ sym (laid-whole _ cds (answers-long ∙ sym (same-rows slaves registers rights cdm cds through)))
+      row-after ∙ sym (laid-whole _ cds (answers-long ∙ sym (same-rows slaves registers rights waits cdm cds through)))
 
   row-answers : rowOf cds′ ≡ answersFrom chain (rowOf cdm)
   row-answers = ap rowOf row-bytes ∙ row-num (answersFrom chain (rowOf cdm))
@@ -64,9 +64,9 @@ module _ {slaves c : ℕ} {rights registers cdm cds registers′ cds′ : List �
   rows-right : (k : ℕ) → k ≤ length cdm → first (rowsRefusals cdm cds′ k) ≡ none
   rows-right k h =
       let right : first (wrongRows cdm cds′) ≡ none = not-wrong cdm cds′ (record {
-        short = short-row slaves registers rights cdm cds through;
+        short = short-row slaves registers rights waits cdm cds through;
         same = sym row-long;
-        cdm-bits = master-bits slaves registers rights cdm cds through;
+        cdm-bits = master-bits slaves registers rights waits cdm cds through;
         cds-bits = rw row-bytes (num-bits (answersFrom chain (rowOf cdm)));
       }) in
       sym (rows-good cdm cds′ k {why = 0} (sym right) refl h)
@@ -84,7 +84,7 @@ module _ {slaves c : ℕ} {rights registers cdm cds registers′ cds′ : List �
   -- Line's demands, of that list: it is the account, ..
   module _ (bytes : areBytes registers ≡ true) where
     chain-bytes : Bytes chain
-    chain-bytes = memories-bytes slaves registers rights bytes
+    chain-bytes = memories-bytes slaves registers rights waits bytes
 
     pub row-account : listOf 0 cdm cds′ ≡ account chain (rowOf cdm)
     row-account = row-list ∙ protocol.list-is-account chain (rowOf cdm) chain-bytes
@@ -100,7 +100,7 @@ module _ {slaves c : ℕ} {rights registers cdm cds registers′ cds′ : List �
     pub row-replay : registersOf (replay chain (listOf 0 cdm cds′)) ≡ registers′
     row-replay =
         let as-lent : registersOf chain ≡ registers
-        = registers-back slaves registers rights (held slaves registers rights cdm cds through .all-registers) in
+        = registers-back slaves registers rights waits (held slaves registers rights waits cdm cds through .all-registers) in
         let long : length (registersOf (memoriesAfter chain (rowOf cdm))) ≡ length registers
         = rw (← row-final) (replay-length chain (listOf 0 cdm cds′) ∙ ap length as-lent) in
         let registers-after : registers′ ≡ lentAfter none (lent (registersOf (memoriesAfter chain (rowOf cdm))) registers)

@@ -7,6 +7,7 @@ use mathlib.Core.List.{List, map}
 use Prim.Native.Nat.{ℕ, _+_, _-_, _*_, _≤_, _<_}
 use native.Mathlib.Omega.{arith}
 use borrow.Author.Tests.{le-ltb}
+use lib.Dec.{eqb}
 use lib.ListN.{length, take, getD}
 use Rattle.protocol.specs.Limits.{restZeros}
 use Rattle.protocol.specs.Bits.{num, rowOf}
@@ -31,39 +32,47 @@ use Rattle.print.proofs.Ends.{was-printed}
 use Rattle.list_text.specs.Lists.{ListPrinted}
 use Rattle.list_text.proofs.Lists.{list-none}
 use Rattle.rows_text.specs.RowsText.{RowsPrinted, RowsTaken}
-use Rattle.demands.specs.Lent.{areBytes, listIn, kindAt, placeAt, Reopened, isBreach, DifferUnread}
-use Rattle.demands.proofs.Chains.{all-alike}
+use Rattle.demands.specs.Lent.{areBytes, listIn, kindAt, placeAt, Reopened, isBreach, noneWaits, DifferUnread}
+use Rattle.demands.proofs.Chains.{memories-prompt, all-alike}
 use Rattle.demands.proofs.Lists as list
-use Rattle.demands.proofs.Lists.{list-count, list-bytes, list-entries, list-empty, list-late, list-never, no-breach-at}
+use Rattle.demands.proofs.Lists.{list-count, list-bytes, list-entries, list-empty, list-late, list-never, kind-at}
 use Rattle.demands.proofs.Answers.{row-bytes, rows-read, row-account, row-shows, row-replay}
 use Rattle.demands.proofs.Texts.{rows-taken, was-told, printed-back, printed-taken}
 
 -- A run that was accepted, on registers lent as bytes, and the list that read made of the master row and the answer row alone.
-module _ {slaves c n : ℕ} {rights registers cdm cds registers′ cds′ lent after : List ℕ} (bytes : areBytes registers ≡ true)
-    (ran : Ran slaves rights registers cdm cds (Made c) registers′ cds′) (listed : Listed cdm cds′ 0 lent (Made n) after) where
+module _ {slaves c n : ℕ} {rights waits registers cdm cds registers′ cds′ lent after : List ℕ} (bytes : areBytes registers ≡ true)
+    (ran : Ran slaves rights waits registers cdm cds (Made c) registers′ cds′) (listed : Listed cdm cds′ 0 lent (Made n) after) where
   -- "The list read from the two rows alone is the chain's own account, entry for entry": as many entries, and every byte of them.
-  pub list-is-account : (n ≡ length (account (memoriesOf slaves registers rights) (rowOf cdm)))
-      × (listIn n after ≡ listBytes current (account (memoriesOf slaves registers rights) (rowOf cdm)))
+  pub list-is-account : (n ≡ length (account (memoriesOf slaves registers rights waits) (rowOf cdm)))
+      × (listIn n after ≡ listBytes current (account (memoriesOf slaves registers rights waits) (rowOf cdm)))
   list-is-account = (list-count listed ∙ ap length (row-account ran bytes), list-bytes listed ∙ ap (listBytes current) (row-account ran bytes))
 
   -- "Its writes replayed on the starting registers give the final registers": those that run left.
-  pub replay-is-final : registersOf (replay (memoriesOf slaves registers rights) (entriesIn current (listIn n after))) ≡ registers′
+  pub replay-is-final : registersOf (replay (memoriesOf slaves registers rights waits) (entriesIn current (listIn n after))) ≡ registers′
   replay-is-final = rw (list-entries listed) (row-replay ran bytes)
 
   -- "Each read shows the byte that stood there then": in the replay of the entries before it.
-  pub reads-show : Shows (memoriesOf slaves registers rights) (entriesIn current (listIn n after))
+  pub reads-show : Shows (memoriesOf slaves registers rights waits) (entriesIn current (listIn n after))
   reads-show = rw (list-entries listed) (row-shows ran bytes)
 
-  -- No entry of the list is of a kind 2, 8, 9, 12 or 14: only damaged rows show a breach.
+  -- No entry of the list is of a kind 2, 8, 12 or 14: only damaged rows show a breach ..
   pub no-breaches : (place : ℕ) → place < n → isBreach (kindAt (listIn n after) place) ≡ false
+  unfolding isBreach
   no-breaches place h =
       rw (list-is-account .1)
-      (no-breach-at (account (memoriesOf slaves registers rights) (rowOf cdm)) place (protocol.no-breaches _ (rowOf cdm))
-      (omega (arith, list-is-account .0)))
+      (kind-at (λ kind. isBreach kind ≡ false) (account (memoriesOf slaves registers rights waits) (rowOf cdm)) place
+      (protocol.no-breaches _ (rowOf cdm)) (omega (arith, list-is-account .0)))
+
+  -- .. and none is a `mute`, 9, where no slave waits.
+  pub no-mute : noneWaits waits ≡ true → (place : ℕ) → place < n → eqb (kindAt (listIn n after) place) 9 ≡ false
+  no-mute prompt place h =
+      rw (list-is-account .1)
+      (kind-at (λ kind. eqb kind 9 ≡ false) (account (memoriesOf slaves registers rights waits) (rowOf cdm)) place
+      (protocol.no-mute _ (rowOf cdm) (memories-prompt slaves registers rights waits prompt)) (omega (arith, list-is-account .0)))
 
 -- Every accepted run has such a list: read refuses its two rows from no opening column in them, if an entry has room for each column.
-pub run-is-read : {slaves c k : ℕ} {rights registers cdm cds registers′ cds′ lent after : List ℕ} {outcome : Outcome}
-    → Ran slaves rights registers cdm cds (Made c) registers′ cds′ → Listed cdm cds′ k lent outcome after
+pub run-is-read : {slaves c k : ℕ} {rights waits registers cdm cds registers′ cds′ lent after : List ℕ} {outcome : Outcome}
+    → Ran slaves rights waits registers cdm cds (Made c) registers′ cds′ → Listed cdm cds′ k lent outcome after
     → k ≤ length cdm → entryBytes current * length cdm ≤ length lent → outcome ≡ Made (length (listOf k cdm cds′))
 run-is-read {k} {lent} ran listed opening room =
     ended-none (listed .ends) (rows-read ran k lent opening room)
@@ -100,12 +109,13 @@ module _ {cdm cds lent after : List ℕ} {k n : ℕ} (listed : Listed cdm cds k 
       let is-list : isList current (listIn n after) ≡ true = rw (list-bytes listed) (bytes-list current (listOf k cdm cds)) in
       ended-none printed (list-none (listIn n after) (length room) is-list (le-ltb _ _ enough))
 
--- "Two runs with the same rights and master row that differ only in registers without the read right give the same answer row."
-pub two-runs : {slaves c d : ℕ} {rights cdm registers cds registers′ cds′ others row others′ row′ : List ℕ}
-    → Ran slaves rights registers cdm cds (Made c) registers′ cds′ → Ran slaves rights others cdm row (Made d) others′ row′
+-- "Two runs with the same rights and master row that differ only in registers without the read right give the same answer row": the waits
+-- are the same too.
+pub two-runs : {slaves c d : ℕ} {rights waits cdm registers cds registers′ cds′ others row others′ row′ : List ℕ}
+    → Ran slaves rights waits registers cdm cds (Made c) registers′ cds′ → Ran slaves rights waits others cdm row (Made d) others′ row′
     → DifferUnread rights registers others → cds′ ≡ row′
-two-runs {slaves} {cdm} ran ran′ differ =
-    row-bytes ran ∙ ap (map num) (protocol.two-runs _ _ (rowOf cdm) (all-alike slaves differ)) ∙ sym (row-bytes ran′)
+two-runs {slaves} {waits} {cdm} ran ran′ differ =
+    row-bytes ran ∙ ap (map num) (protocol.two-runs _ _ (rowOf cdm) (all-alike slaves waits differ)) ∙ sym (row-bytes ran′)
 
 -- "Rows go to text and back unchanged": what rows to text wrote, text to rows takes back, into rows with room for it.
 pub rows-come-back : (cdm cds : List ℕ) {lent text a b a′ b′ : List ℕ} {n : ℕ} {outcome : Outcome}
@@ -153,10 +163,10 @@ module _ {text a b a′ b′ lent list room out : List ℕ} {c k n p : ℕ} (row
 
 -- All of it: a chain is run, its rows are written as text, the text is indexed, and what is printed is the chain's own account.
 pub account-is-printed : {slaves c d n m p : ℕ}
-    {rights registers cdm cds registers′ cds′ lent written a b a′ b′ lent′ list room out : List ℕ} → areBytes registers ≡ true
-    → Ran slaves rights registers cdm cds (Made c) registers′ cds′ → RowsPrinted cdm cds′ lent (Made m) written
+    {rights waits registers cdm cds registers′ cds′ lent written a b a′ b′ lent′ list room out : List ℕ} → areBytes registers ≡ true
+    → Ran slaves rights waits registers cdm cds (Made c) registers′ cds′ → RowsPrinted cdm cds′ lent (Made m) written
     → RowsTaken (take m written) a b (Made d) a′ b′ → Listed (take d a′) (take d b′) 0 lent′ (Made n) list
     → ListPrinted (listIn n list) room (Made p) out
-    → take p out ≡ listText (account (memoriesOf slaves registers rights) (rowOf cdm))
+    → take p out ≡ listText (account (memoriesOf slaves registers rights waits) (rowOf cdm))
 account-is-printed {cdm} {cds′} bytes ran wrote rows listed printed =
     written-is-printed rows listed printed cdm cds′ wrote refl ∙ rw (row-account ran bytes)

@@ -1,6 +1,5 @@
 -- A list in its buffer: its kinds, and what it says that read made it. Assumes nothing.
 use mathlib.Core.Path.{_≡_, refl, sym, ap, _∙_}
-use mathlib.Core.Bool.{false}
 use mathlib.Core.List.{List, [], _∷_}
 use mathlib.Core.Option.{none, some, Option·none-ne-some, Option·some-injective}
 use Prim.Native.Nat.{ℕ, zero, suc, _+_, _-_, _*_, _≤_, _<_}
@@ -9,7 +8,7 @@ use borrow.Author.Tests.{ltb-false, eqb-true, not-false}
 use lib.ListN.{length, drop, getElem?, length-map, length-drop, drop-of-length-le}
 use lib.Seq.{drop-append-add, drop-drop}
 use Rattle.protocol.specs.Bits.{bitOf, rowOf}
-use Rattle.protocol.specs.Entries.{Entry}
+use Rattle.protocol.specs.Entries.{number, Entry}
 use Rattle.protocol.specs.Pieces.{joined}
 use Rattle.protocol.specs.Layout.{Field, current, width, valueOf, entryBytes, offset, bytesOf, listBytes, fieldAt, entriesIn}
 use Rattle.protocol.specs.Limits.{restZeros}
@@ -20,7 +19,6 @@ use Rattle.laws.proofs.Places.{outside, every-at}
 use Rattle.protocol.proofs.Pieces.{number-behind}
 use Rattle.protocol.proofs.Codec.{field-back, length-entry, length-list, entries-back}
 use Rattle.protocol.proofs.Late.{masters, masters-columns}
-use Rattle.protocol.proofs.Honest.{Sound}
 use Rattle.protocol.proofs.Demands as protocol
 use Rattle.job.specs.Refusals.{first, lent, lentAfter}
 use Rattle.job.specs.Rows.{rowRules, wrongRows}
@@ -30,7 +28,7 @@ use Rattle.job.proofs.Refusals.{no, none-before, was-made, ended-none, result-f
 use Rattle.read.specs.Read.{listOf, rowsRefusals, refusals, Listed}
 use Rattle.read.proofs.Bytes.{Small, small-list}
 use Rattle.read.proofs.Ends.{rows-good, rows-through, not-refused}
-use Rattle.demands.specs.Lent.{listIn, kindAt, placeAt, entryIn, Reopened, isBreach}
+use Rattle.demands.specs.Lent.{listIn, kindAt, placeAt, entryIn, Reopened}
 
 -- What stands in a field of the entry at a place of a list.
 field-there : (es : List Entry) (i : ℕ) (e : Entry) (f : Field) → getElem? es i ≡ some e
@@ -44,13 +42,13 @@ field-there (d ∷ es) (suc i) e f there =
     rw (on, number-behind (width current f) (entryBytes current * i + offset current f) (bytesOf current d) (listBytes current es))
     (field-there es i e f there)
 
--- Of entries that are no breaches no breach's number stands in the list.
-pub no-breach-at : (es : List Entry) (i : ℕ) → Every (λ e. Sound (e .event)) es → i < length es
-    → isBreach (kindAt (listBytes current es) i) ≡ false
-unfolding kindAt isBreach
-no-breach-at es i sound h =
+-- What holds of the kind's number of every entry holds of the numbers that stand in the list.
+pub kind-at : (Q : ℕ → Type 0) (es : List Entry) (i : ℕ) → Every (λ e. Q (number (e .event .kind))) es → i < length es
+    → Q (kindAt (listBytes current es) i)
+unfolding kindAt
+kind-at Q es i holds h =
     looked-up (getElem? es i) (λ none. absurd (omega (arith, outside es i none)))
-    (λ e there. rw (field-there es i e Field.kind there) (every-at _ es i e sound there))
+    (λ e there. rw (field-there es i e Field.kind there) (every-at _ es i e holds there))
 
 -- A list without its first entries.
 bytes-drop : (n : ℕ) (es : List Entry) → listBytes current (drop n es) ≡ drop (entryBytes current * n) (listBytes current es)

@@ -1,5 +1,5 @@
--- What the demands say of lent buffers: that they hold bytes, a list in one and its entries, the kinds that no chain makes, and
--- registers that differ only where nothing may be read.
+-- What the demands say of lent buffers: that they hold bytes, a list in one and its entries, the kinds that no chain makes, and those that
+-- no chain makes that does not wait; and registers that differ only where nothing may be read.
 use mathlib.Core.Path.{_≡_}
 use mathlib.Core.Bool.{Bool, true, false, _||_}
 use mathlib.Core.List.{List, [], _∷_}
@@ -51,9 +51,13 @@ abbrev pub isOneOf : List ℕ → ℕ → Bool
 isOneOf [] n = false
 isOneOf (x ∷ xs) n = eqb n x || isOneOf xs n
 
--- Entries, of the chain's account: "2, 8, 9, 12 and 14 never occur in it".
+-- Entries, of the chain's account: "2, 8, 9, 12 and 14 never occur in it". Request 03: "`mute` may now stand in the chain's account."
 unfoldable pub isBreach : (kind : ℕ) → Bool
-isBreach kind = isOneOf (2 ∷ 8 ∷ 9 ∷ 12 ∷ 14 ∷ []) kind
+isBreach kind = isOneOf (2 ∷ 8 ∷ 12 ∷ 14 ∷ []) kind
+
+-- Request 03, of a lent table of waits: no slave waits.
+unfoldable pub noneWaits : (waits : List ℕ) → Bool
+noneWaits waits = noneAbove 0 waits
 
 -- "0 none, 1 read, 2 write, 3 both": the right at a place of the lent rights allows a read.
 unfoldable pub mayRead : (rights : List ℕ) → (place : ℕ) → Bool

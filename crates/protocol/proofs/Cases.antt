@@ -17,8 +17,8 @@ use Rattle.protocol.specs.Bits.{bit, bits, push}
 use Rattle.protocol.specs.Rest.{judge, timer}
 use Rattle.protocol.specs.Division.{divideBit, divide, remainder, check, word, fits, byteOf}
 use Rattle.protocol.specs.Header.{header}
-use Rattle.protocol.specs.Memory.{Memory, allows, holds, stored}
-use Rattle.protocol.specs.Building.{read, write, command, readBytes, writeBytes, frameOf, rowFor}
+use Rattle.protocol.specs.Memory.{Memory, allows, holds, stored, delayBy, delay}
+use Rattle.protocol.specs.Building.{read, write, command, byteColumns, frameOf, rowFor}
 use Rattle.protocol.specs.Entries.{Kind, event, Entry, bytes, numbered}
 use Rattle.protocol.specs.Pieces.{inBytes, numberAt, cut, pieces, isWhole}
 use Rattle.protocol.specs.Layout.{current, fieldBytes, bytesOf, entriesOf, entriesIn, allEntries, isList}
@@ -28,7 +28,7 @@ use Rattle.protocol.specs.Slave
 use Rattle.protocol.specs.Chain
 use Rattle.protocol.specs.Reader
 use Rattle.laws.proofs.Table.{tabulate}
-use Rattle.protocol.proofs.Drawn.{holding, one, columnsOf, drawn}
+use Rattle.protocol.proofs.Drawn.{holding, one, slow, columnsOf, drawn}
 
 flip : ℕ → List Bool → List Bool
 flip zero [] = []
@@ -56,10 +56,10 @@ sample chain row damage shows = record { chain = chain; row = row; damage = dama
 
 -- The built read of ID 0, address 44, one byte, and one zero more; the built write of 5B there.
 reading : List Bool
-reading = rowFor (read 0 0x44 1) ++ false ∷ []
+reading = rowFor (read 0 0x44 1 0) ++ false ∷ []
 
 writing : List Bool
-writing = rowFor (write 0 0x44 (0x5B ∷ []))
+writing = rowFor (write 0 0x44 (0x5B ∷ []) 0)
 
 -- An entry: its kind, column, id, address and value.
 unfoldable pub entry : Kind → (column id address value : ℕ) → Entry
@@ -75,12 +75,12 @@ pub samples : List Sample
 samples =
     -- the bench run; the same without its last column; with thirteen zeros before S
     sample (one 3) reading [] (locked ∷ entry Kind.read 44 0 68 90 ∷ ended)
-    ∷ sample (one 3) (rowFor (read 0 0x44 1)) [] (locked ∷ entry Kind.read 44 0 68 90 ∷ [])
+    ∷ sample (one 3) (rowFor (read 0 0x44 1 0)) [] (locked ∷ entry Kind.read 44 0 68 90 ∷ [])
     ∷ sample (one 3) (drop 1 reading) [] []
     -- two slaves: the far one is ID 0
     ∷ sample (holding 0x44 0x5A 3 ∷ holding 0x44 0x11 3 ∷ []) reading []
     (entry Kind.lock 23 0 0 2 ∷ entry Kind.read 44 0 68 90 ∷ ended)
-    ∷ sample (holding 0x44 0x5A 3 ∷ holding 0x44 0x11 3 ∷ []) (rowFor (read 1 0x44 1)) []
+    ∷ sample (holding 0x44 0x5A 3 ∷ holding 0x44 0x11 3 ∷ []) (rowFor (read 1 0x44 1 0)) []
     (entry Kind.lock 23 0 0 2 ∷ entry Kind.read 44 1 68 17 ∷ [])
     -- IDL2 is 1 after IDL1 was 0
     ∷ sample (one 3) reading (17 ∷ []) (entry Kind.lockodd 23 0 0 0 ∷ ended)
@@ -93,7 +93,7 @@ samples =
     ∷ sample (one 3) (replicate 14 false ++ true ∷ true ∷ replicate 14 false) [] (locked ∷ entry Kind.end 29 0 0 0 ∷ [])
     -- R = W; an ID that nobody holds; no right to read, and none to write
     ∷ sample (one 3) (flips (31 ∷ []) reading) [] (locked ∷ entry Kind.pair 31 0 68 0 ∷ ended)
-    ∷ sample (one 3) (rowFor (read 1 0x44 1)) [] (locked ∷ entry Kind.absent 31 1 68 0 ∷ [])
+    ∷ sample (one 3) (rowFor (read 1 0x44 1 0)) [] (locked ∷ entry Kind.absent 31 1 68 0 ∷ [])
     ∷ sample (one 2) reading [] (locked ∷ entry Kind.refused 31 0 68 0 ∷ ended)
     ∷ sample (one 1) writing [] (locked ∷ entry Kind.refused 31 0 68 1 ∷ [])
     ∷ sample (one 0) reading [] (locked ∷ entry Kind.refused 31 0 68 0 ∷ ended)
@@ -102,35 +102,51 @@ samples =
     ∷ sample (one 3) writing (30 ∷ []) (locked ∷ entry Kind.odd 31 0 68 3 ∷ [])
     ∷ sample (one 3) reading (15 ∷ []) (entry Kind.lock 23 0 0 0 ∷ entry Kind.odd 31 0 68 2 ∷ ended)
     ∷ sample (one 3) writing (15 ∷ []) (entry Kind.lock 23 0 0 0 ∷ entry Kind.odd 31 0 68 1 ∷ [])
-    -- S = 1 answered 0, with a 1 of the master after it; a data bit of the answer, and a byte after it; P answered 1
-    ∷ sample (one 3) (flips (33 ∷ []) reading) (32 ∷ []) (locked ∷ entry Kind.mute 32 0 68 0 ∷ [])
-    ∷ sample (one 3) (rowFor (read 0 0x44 2)) (33 ∷ []) (locked ∷ entry Kind.readbad 44 0 68 218 ∷ entry Kind.read 58 0 69 0 ∷ [])
+    -- S = 1 answered 0, and so again; a data bit of the answer, and a byte after it; P answered 1
+    ∷ sample (one 3) (flips (33 ∷ []) reading) (32 ∷ []) (locked ∷ entry Kind.mute 34 0 68 0 ∷ [])
+    ∷ sample (one 3) (rowFor (read 0 0x44 2 0)) (33 ∷ []) (locked ∷ entry Kind.readbad 44 0 68 218 ∷ entry Kind.read 58 0 69 0 ∷ [])
     ∷ sample (one 3) reading (45 ∷ []) (locked ∷ entry Kind.read 44 0 68 90 ∷ entry Kind.closed 45 0 68 0 ∷ ended)
     -- a write; a data bit of the master; the last bit of the echo; another, and a byte after it; both
     ∷ sample (one 2) writing [] (locked ∷ entry Kind.written 44 0 68 91 ∷ [])
     ∷ sample (one 3) (flips (33 ∷ []) writing) [] (locked ∷ entry Kind.writebad 44 0 68 219 ∷ entry Kind.closed 45 0 68 0 ∷ [])
     ∷ sample (one 3) writing (44 ∷ []) (locked ∷ entry Kind.echo 44 0 68 91 ∷ [])
-    ∷ sample (one 3) (rowFor (write 0 0x44 (0x5B ∷ 0x01 ∷ []))) (34 ∷ [])
+    ∷ sample (one 3) (rowFor (write 0 0x44 (0x5B ∷ 0x01 ∷ []) 0)) (34 ∷ [])
     (locked ∷ entry Kind.echo 44 0 68 91 ∷ entry Kind.written 58 0 69 1 ∷ [])
     ∷ sample (one 3) (flips (33 ∷ []) writing) (34 ∷ 45 ∷ []) (locked ∷ entry Kind.writebad 44 0 68 219 ∷ [])
+    -- a memory that waits, and a row built with its waiting number: a read, and a write, of which the first byte does not wait
+    ∷ sample (slow 2) (rowFor (read 0 0x44 1 2) ++ false ∷ []) []
+    (locked ∷ entry Kind.read 46 0 68 90 ∷ entry Kind.end 48 0 0 0 ∷ [])
+    ∷ sample (slow 3) (rowFor (write 0 0x44 (0x5B ∷ 0x01 ∷ []) 3)) []
+    (locked ∷ entry Kind.written 44 0 68 91 ∷ entry Kind.written 61 0 69 1 ∷ [])
+    -- the master gives up: at the first byte, and at the second; it stops there and repeats nothing, which is no `mute`
+    ∷ sample (slow 3) (rowFor (read 0 0x44 1 1) ++ false ∷ []) []
+    (locked ∷ entry Kind.mute 34 0 68 0 ∷ entry Kind.end 47 0 0 0 ∷ [])
+    ∷ sample (slow 1) (rowFor (read 0 0x44 1 1) ++ true ∷ false ∷ []) []
+    (locked ∷ entry Kind.read 45 0 68 90 ∷ entry Kind.mute 48 0 69 0 ∷ [])
+    ∷ sample (slow 3) (rowFor (write 0 0x44 (0x5B ∷ []) 3) ++ false ∷ true ∷ []) [] (locked ∷ entry Kind.written 44 0 68 91 ∷ [])
+    -- it repeats S once too often at a written byte, whose bits shift
+    ∷ sample (slow 1) (drawn "00000000000000 1 1 000 10001 00 1101 01 1 00000001 1100 0 111 00000001 1100 0") []
+    (locked ∷ entry Kind.written 44 0 68 1 ∷ entry Kind.writebad 59 0 69 128 ∷ entry Kind.closed 60 0 69 0 ∷ [])
+    -- the first S of a write answered 0: the reader waits there too
+    ∷ sample (one 3) writing (32 ∷ []) (locked ∷ entry Kind.mute 33 0 68 0 ∷ [])
     -- the last address: P is 1; P answered 0 there, and a 1 after it
-    ∷ sample (one 1) (rowFor (read 0 0x7F 1)) []
+    ∷ sample (one 1) (rowFor (read 0 0x7F 1 0)) []
     (locked ∷ entry Kind.read 44 0 127 0 ∷ entry Kind.closed 45 0 127 0 ∷ [])
-    ∷ sample (one 1) (rowFor (read 0 0x7F 1) ++ true ∷ []) (45 ∷ [])
+    ∷ sample (one 1) (rowFor (read 0 0x7F 1 0) ++ true ∷ []) (45 ∷ [])
     (locked ∷ entry Kind.read 44 0 127 0 ∷ entry Kind.odd 45 0 127 4 ∷ [])
     -- P answered 0 at the 64th byte
-    ∷ sample (one 1) (rowFor (read 0 0x00 64)) (927 ∷ [])
+    ∷ sample (one 1) (rowFor (read 0 0x00 64 0)) (927 ∷ [])
     (locked ∷ tabulate (λ i. entry Kind.read (44 + 14 * i) 0 i 0) 0 64 ++ entry Kind.odd 927 0 63 4 ∷ [])
     ∷ []
 
 pub samples-hold : map listed samples ≡ map (λ s. s .shows) samples
-unfolding samples sample entry listed flips flip reading writing locked ended holding one columnsOf rowFor frameOf readBytes writeBytes word check remainder divide divideBit bit bits push fits byteOf header allows holds stored judge timer Slave.lock Slave.called Slave.more Slave.speak Slave.step Chain.pass Chain.answers Chain.switchedOn Chain.answersFrom Reader.seen Reader.locked Reader.headed Reader.asked Reader.look Reader.step Reader.columns Reader.entries Reader.listFrom
+unfolding samples sample entry listed flips flip reading writing locked ended holding one slow columnsOf rowFor frameOf byteColumns word check remainder divide divideBit bit bits push fits byteOf header allows holds stored delayBy delay judge timer Slave.lock Slave.called Slave.more Slave.speak Slave.step Chain.pass Chain.answers Chain.switchedOn Chain.answersFrom Reader.seen Reader.locked Reader.headed Reader.asked Reader.look Reader.step Reader.columns Reader.entries Reader.listFrom
 samples-hold = refl
 
 -- Two reads one after the other: each entry has its own frame's S, and fourteen columns before the second a reader opens at it.
 twice : (k : ℕ) → List Entry
 twice k =
-    let row : List Bool = rowFor (read 0 0x44 1) ++ reading in Reader.listFrom k (Reader.columns row (Chain.answersFrom (one 3) row))
+    let row : List Bool = rowFor (read 0 0x44 1 0) ++ reading in Reader.listFrom k (Reader.columns row (Chain.answersFrom (one 3) row))
 
 -- A kind, its column, the column of S, id, address and value.
 pub placed : Kind → (column start id address value : ℕ) → Entry
@@ -141,7 +157,7 @@ second : List Entry
 second = placed Kind.lock 69 60 0 0 1 ∷ placed Kind.read 90 60 0 68 90 ∷ placed Kind.end 92 60 0 0 0 ∷ []
 
 starts-hold : map twice (0 ∷ 14 ∷ 46 ∷ 47 ∷ []) ≡ (locked ∷ entry Kind.read 44 0 68 90 ∷ ended ++ second) ∷ second ∷ second ∷ [] ∷ []
-unfolding twice placed second entry reading locked ended holding one rowFor frameOf readBytes word check remainder divide divideBit bit bits push fits byteOf header allows holds stored judge timer Slave.lock Slave.called Slave.more Slave.speak Slave.step Chain.pass Chain.answers Chain.switchedOn Chain.answersFrom Reader.seen Reader.locked Reader.headed Reader.asked Reader.look Reader.step Reader.columns Reader.entries Reader.listFrom
+unfolding twice placed second entry reading locked ended holding one rowFor frameOf byteColumns word check remainder divide divideBit bit bits push fits byteOf header allows holds stored delayBy delay judge timer Slave.lock Slave.called Slave.more Slave.speak Slave.step Chain.pass Chain.answers Chain.switchedOn Chain.answersFrom Reader.seen Reader.locked Reader.headed Reader.asked Reader.look Reader.step Reader.columns Reader.entries Reader.listFrom
 starts-hold = refl
 
 -- A kind, and what is expected of its entry in column 300, S in column 270, with id 5, address 68 and value 90: its bytes, and its line.

@@ -11,7 +11,7 @@ use Rattle.protocol.specs.Limits.{restZeros}
 use Rattle.protocol.specs.Rest.{Timed, rest, powerOn}
 use Rattle.protocol.specs.Division.{dataBits}
 use Rattle.protocol.specs.Memory.{Memory}
-use Rattle.protocol.specs.Slave.{Slave}
+use Rattle.protocol.specs.Slave.{Slave, byteS, turn, confirmed, speak}
 use Rattle.protocol.specs.Chain.{switchedOn, answersFrom, memoriesAfter}
 use Rattle.protocol.specs.Chain
 use Rattle.protocol.specs.Building.{read, write, command, rowFor}
@@ -34,6 +34,8 @@ use Rattle.protocol.proofs.Whole.{whole}
 use Rattle.protocol.proofs.Understood.{read-shown, write-shown, command-shown}
 use Rattle.protocol.proofs.Twins.{Alike, twins, same-answers}
 use Rattle.protocol.proofs.Honest.{Sound, fair-along}
+use Rattle.protocol.proofs.Waits as waits
+use Rattle.protocol.proofs.Waits.{Prompt, Loud}
 
 -- The list that a reader makes of a master row and the chain's answers to it is the chain's own account, where registers hold bytes.
 pub list-is-account : (ks : List Memory) (row : List Bool) → Bytes ks → listFrom 0 (columns row (answersFrom ks row)) ≡ account ks row
@@ -48,18 +50,19 @@ replay-is-final ks row bs = rw (whole ks row bs .list) (whole ks row bs .replaye
 pub reads-show : (ks : List Memory) (row : List Bool) → Bytes ks → Shows ks (listFrom 0 (columns row (answersFrom ks row)))
 reads-show ks row bs = rw (whole ks row bs .list) (whole ks row bs .shown)
 
--- A built read is understood: of a chain that holds the ID and allows the access at each address, the list is `lock`, a `read` of each
--- byte that stands there, in its last check column, and in the last P `closed` exactly if the slave would not go on ..
+-- A built read is understood: of a chain that holds the ID and allows the access at each address, and of a row built with the waiting
+-- number of that slave, the list is `lock`, a `read` of each byte that stands there, in its last check column, and in the last P `closed`
+-- exactly if the slave would not go on ..
 pub read-understood : (ks : List Memory) (k : Memory) (id address n : ℕ) → Bytes ks → Allowed ks k false id address (suc n)
-    → listed ks (rowFor (read id address (suc n)))
-    ≡ lockShown ks ∷ bytesShown Kind.read id address 0 (standing k address (suc n)) ++ closing k false id address n
+    → listed ks (rowFor (read id address (suc n) (k .wait)))
+    ≡ lockShown ks ∷ bytesShown (k .wait) false id address 0 (standing k address (suc n)) ++ closing k false id address n
 read-understood ks k id address n bs a = list-is-account ks _ bs ∙ read-shown ks bs k id address n a
 
 -- .. a built write alike, with `written` and the bytes lent ..
 pub write-understood : (ks : List Memory) (k : Memory) (id address v : ℕ) (vs : List ℕ) → Bytes ks
     → Allowed ks k true id address (length (v ∷ vs)) → Every (λ b. b < 2 ^ dataBits) (v ∷ vs)
-    → listed ks (rowFor (write id address (v ∷ vs)))
-    ≡ lockShown ks ∷ bytesShown Kind.written id address 0 (v ∷ vs) ++ closing k true id address (length vs)
+    → listed ks (rowFor (write id address (v ∷ vs) (k .wait)))
+    ≡ lockShown ks ∷ bytesShown (k .wait) true id address 0 (v ∷ vs) ++ closing k true id address (length vs)
 write-understood ks k id address v vs bs a h = list-is-account ks _ bs ∙ write-shown ks bs k id address v vs a h
 
 -- .. and of a built command the list is `lock` and `command`, whatever the chain.
@@ -89,7 +92,7 @@ one-start row p q s t same = start.one-start row p q s t same
 pub open-at-frame : (cs : List Column) (k i : ℕ) (e : Entry) → getElem? (listFrom k cs) i ≡ some e → OpenedAt cs k i (e .place .start)
 open-at-frame cs k i e there = opened-at cs k i e there
 
--- Two runs with the same rights and master row that differ only in registers without the read right give the same answer row.
+-- Two runs with the same rights, waits and master row that differ only in registers without the read right give the same answer row.
 pub two-runs : (ks ks′ : List Memory) (row : List Bool) → Alike ks ks′ → answersFrom ks row ≡ answersFrom ks′ row
 unfolding answersFrom
 two-runs ks ks′ row h = same-answers (switchedOn ks) (switchedOn ks′) row (twins ks ks′ h)
@@ -102,7 +105,20 @@ reader-rests s cs zeros = rests restZeros s cs (fourteen begun s) zeros
 pub slaves-rest : (ss : List Slave) → Every (λ s. s .state ≡ rest) (Chain.after ss (replicate restZeros false))
 slaves-rest ss = soon-after restZeros ss (all-soon ss)
 
--- The chain's account never holds lockodd, odd, mute, readbad or echo.
+-- The chain's account never holds lockodd, odd, readbad or echo.
 pub no-breaches : (ks : List Memory) (row : List Bool) → Every (λ e. Sound (e .event)) (account ks row)
 unfolding account
 no-breaches ks row = fair-along (switchedOn ks) powerOn (opened 0) row
+
+-- Request 03: a slave with the waiting number 0 confirms S at once, as if there were no waits ..
+pub at-once : (k : Memory) (writing : Bool) (address nth : ℕ) (b : Bool) → Prompt k
+    → speak k (byteS writing address nth 0) true b ≡ turn (confirmed k writing address nth) true k
+at-once k writing address nth b h = waits.at-once k writing address nth b h
+
+-- .. any slave confirms that of a write's first byte at once ..
+pub first-write : (k : Memory) (address : ℕ) (b : Bool) → speak k (byteS true address 1 0) true b ≡ turn (confirmed k true address 1) true k
+first-write k address b = waits.first-write k address b
+
+-- .. and where every slave has the waiting number 0, the account holds no `mute`.
+pub no-mute : (ks : List Memory) (row : List Bool) → Every Prompt ks → Every (λ e. Loud (e .event)) (account ks row)
+no-mute ks row hs = waits.loud ks row hs

@@ -17,8 +17,8 @@ use Rattle.protocol.specs.Bits.{bit, bits, push}
 use Rattle.protocol.specs.Rest.{judge, timer}
 use Rattle.protocol.specs.Division.{divideBit, divide, remainder, check, word, fits, byteOf}
 use Rattle.protocol.specs.Header.{header}
-use Rattle.protocol.specs.Memory.{Memory, allows, holds, stored}
-use Rattle.protocol.specs.Building.{Request, read, write, command, readBytes, writeBytes, frameOf, rowFor}
+use Rattle.protocol.specs.Memory.{Memory, allows, holds, stored, delayBy, delay}
+use Rattle.protocol.specs.Building.{Request, read, write, command, byteColumns, frameOf, rowFor}
 use Rattle.protocol.specs.Entries.{bytes}
 use Rattle.protocol.specs.Card.{blank}
 use Rattle.protocol.specs.Slave
@@ -27,15 +27,19 @@ use Rattle.protocol.specs.Chain
 -- A slave of which one register holds a value, the rest 0, with the same right everywhere ..
 unfoldable pub holding : (address value right : ℕ) → Memory
 holding address value right =
-    record { registers = set (replicate registerCount 0) address value; rights = replicate registerCount right }
+    record { registers = set (replicate registerCount 0) address value; rights = replicate registerCount right; wait = 0 }
 
 -- .. and with another right at one address.
 except : (address right : ℕ) → Memory → Memory
-except address right k = record { registers = k .registers; rights = set (k .rights) address right }
+except address right k = record { registers = k .registers; rights = set (k .rights) address right; wait = k .wait }
 
--- The bench card's slave, with a right: register 44 holds 5A.
+-- The bench card's slave, with a right: register 44 holds 5A ..
 unfoldable pub one : (right : ℕ) → List Memory
 one right = holding 0x44 0x5A right ∷ []
+
+-- .. and with all rights and a waiting number.
+unfoldable pub slow : (wait : ℕ) → List Memory
+slow wait = record { registers = set (replicate registerCount 0) 0x44 0x5A; rights = replicate registerCount 3; wait = wait } ∷ []
 
 -- Eight slaves, of which ID 7 may be read and holds 01 at address 7F, and so many more, which hold FF there.
 eightAnd : (more : ℕ) → List Memory
@@ -120,6 +124,23 @@ drawings =
     ∷ draw (except 0x45 2 (holding 0x44 0x5A 3) ∷ [])
     "00000000000000 1 1 000 10001 00 1101 10 1 00000000 0000 0 1 00000000 0000 0"
     "00000000000000 0 1 000 00000 00 0000 10 1 01011010 0000 1 0 00000000 0000 0"
+    -- a memory that waits: each byte of a read; of a write all but the first (000, figure 32)
+    ∷ draw (slow 2)
+    "00000000000000 1 1 000 10001 00 1101 10 111 00000000 0000 0 111 00000000 0000 0"
+    "00000000000000 0 1 000 00000 00 0000 10 001 01011010 0000 0 001 00000000 1111 0"
+    ∷ draw (slow 2)
+    "00000000000000 1 1 000 10001 00 1101 01 1 00000001 1100 0 111 10000000 0001 0 111 00000001 1100 0"
+    "00000000000000 0 1 000 00000 00 0000 01 1 00000001 1100 0 001 10000000 0001 0 001 00000001 1100 0"
+    -- the master gives up, and ones after it; it repeats S once too often, in a read and in a write, where the bits shift
+    ∷ draw (slow 2)
+    "00000000000000 1 1 000 10001 00 1101 10 11 01 11111111 1111 1"
+    "00000000000000 0 1 000 00000 00 0000 10 00 00 00000000 0000 0"
+    ∷ draw (slow 1)
+    "00000000000000 1 1 000 10001 00 1101 10 111 00000000 0000 0"
+    "00000000000000 0 1 000 00000 00 0000 10 010 10110100 0000 0"
+    ∷ draw (slow 1)
+    "00000000000000 1 1 000 10001 00 1101 01 1 00000001 1100 0 111 00000001 1100 0"
+    "00000000000000 0 1 000 00000 00 0000 01 1 00000001 1100 0 011 00000001 1101 0"
     -- S, CTS = 1 and fourteen zeros; two zeros more, and S
     ∷ draw (one 3)
     "00000000000000 1 1 000 00000 00 0000 00 1 1 000 10001 00 1101 10 1 00000000 0000 0"
@@ -131,7 +152,7 @@ drawings =
     ∷ []
 
 pub answers-hold : map answered drawings ≡ map (λ d. drawn (d .cds)) drawings
-unfolding drawings draw answered columnsOf holding one eightAnd except word check remainder divide divideBit bit push fits byteOf header allows holds stored judge timer Slave.lock Slave.called Slave.more Slave.speak Slave.step Chain.pass Chain.answers Chain.switchedOn Chain.answersFrom
+unfolding drawings draw answered columnsOf holding one slow eightAnd except word check remainder divide divideBit bit push fits byteOf header allows holds stored delayBy delay judge timer Slave.lock Slave.called Slave.more Slave.speak Slave.step Chain.pass Chain.answers Chain.switchedOn Chain.answersFrom
 answers-hold = refl
 
 pub record Build : Type 0 where
@@ -144,12 +165,15 @@ build request row = record { request = request; row = row }
 
 pub builds : List Build
 builds =
-    build (read 0 0x44 1) "00000000000000 1 1 000 10001 00 1101 10 1 00000000 0000 0"
-    ∷ build (read 0 0x7C 2) "00000000000000 1 1 000 11111 00 1001 10 1 00000000 0000 0 1 00000000 0000 0"
-    ∷ build (write 1 0x41 (0x80 ∷ 0x01 ∷ [])) "00000000000000 1 1 001 10000 01 1100 01 1 10000000 0001 0 1 00000001 1100 0"
+    build (read 0 0x44 1 0) "00000000000000 1 1 000 10001 00 1101 10 1 00000000 0000 0"
+    ∷ build (read 0 0x7C 2 0) "00000000000000 1 1 000 11111 00 1001 10 1 00000000 0000 0 1 00000000 0000 0"
+    ∷ build (write 1 0x41 (0x80 ∷ 0x01 ∷ []) 0) "00000000000000 1 1 001 10000 01 1100 01 1 10000000 0001 0 1 00000001 1100 0"
+    -- S repeated at every byte that waits
+    ∷ build (read 0 0x7C 2 2) "00000000000000 1 1 000 11111 00 1001 10 111 00000000 0000 0 111 00000000 0000 0"
+    ∷ build (write 1 0x41 (0x80 ∷ 0x01 ∷ []) 3) "00000000000000 1 1 001 10000 01 1100 01 1 10000000 0001 0 1111 00000001 1100 0"
     ∷ build (command 0 2) "00000000000000 1 0 000 00000 10 1001"
     ∷ []
 
 pub builds-hold : map (λ b. rowFor (b .request)) builds ≡ map (λ b. drawn (b .row)) builds
-unfolding builds build columnsOf rowFor frameOf readBytes writeBytes bits bit word check remainder divide divideBit
+unfolding builds build columnsOf rowFor frameOf byteColumns delayBy bits bit word check remainder divide divideBit
 builds-hold = refl

@@ -1,4 +1,5 @@
--- The chain's own account holds no breach: "2, 8, 9, 12 and 14 never occur in it". Assumes nothing.
+-- The chain's own account holds no breach: of 2, 8, 12 and 14 none occurs in it, and `mute` only where a slave waits (proofs/Waits). Assumes
+-- nothing.
 use mathlib.Core.Path.{_≡_, refl}
 use mathlib.Core.Bool.{Bool, true, false, _&&_, _||_, Bool·beq}
 use mathlib.Core.List.{List, [], _∷_}
@@ -14,14 +15,14 @@ use Rattle.protocol.specs.Memory.{Memory, allows}
 use Rattle.protocol.specs.Entries.{Kind, Event, event, Place, onward}
 use Rattle.protocol.specs.Slave.{Slave}
 use Rattle.protocol.specs.Chain.{column, memories}
-use Rattle.protocol.specs.Account.{Phase, deaf, locks, head, askR, askW, byteS, carries, askP, Told, slaveAt, moreAt, headed, asked, tell, begun, step, along}
+use Rattle.protocol.specs.Account.{Phase, deaf, locks, head, askR, askW, byteS, carries, askP, Told, slaveAt, delayAt, moreAt, headed, asked, tell, begun, step, along}
 use Rattle.protocol.specs.Replay.{is}
 use Rattle.laws.proofs.Every.{Every, IfAny, either}
 use Rattle.protocol.proofs.Machine.{says-so, every-note}
 
 -- The kinds that only a damaged row shows.
 abbrev pub breaches : List Kind
-breaches = Kind.lockodd ∷ Kind.odd ∷ Kind.mute ∷ Kind.readbad ∷ Kind.echo ∷ []
+breaches = Kind.lockodd ∷ Kind.odd ∷ Kind.readbad ∷ Kind.echo ∷ []
 
 -- The event is of one of these kinds.
 abbrev pub among : List Kind → Event → Bool
@@ -54,8 +55,8 @@ fair-tell ks (locks column so-far) m = either Fair (ltb column lockLast) tt refl
 fair-tell ks (head column so-far) m = either Fair (ltb column headerColumns) tt (fair-headed (header (push so-far m)))
 fair-tell ks (askR id address) m = tt
 fair-tell ks (askW id address r) m = either Fair (Bool·beq r m) refl (fair-asked (slaveAt ks id) id address m)
-fair-tell ks (byteS write id address nth) false = tt
-fair-tell ks (byteS write id address nth) true = tt
+fair-tell ks (byteS write id address nth unconfirmed) false = either Fair (ltb 0 unconfirmed) refl tt
+fair-tell ks (byteS write id address nth unconfirmed) true = either Fair (ltb unconfirmed (delayAt (slaveAt ks id) write nth)) tt tt
 fair-tell ks (carries write id address nth (suc left) so-far) m = tt
 fair-tell ks (carries false id address nth zero so-far) m = refl
 fair-tell ks (carries true id address nth zero so-far) m =

@@ -28,4 +28,5 @@ pub mod Walk
 pub mod Understood
 pub mod Twins
 pub mod Honest
+pub mod Waits
 pub mod Demands

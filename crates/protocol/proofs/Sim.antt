@@ -13,10 +13,10 @@ use lib.ListN.{length, getElem?}
 use Rattle.protocol.specs.Limits.{headerColumns, idCount, lockFirst, lockLast}
 use Rattle.protocol.specs.Bits.{bit, push}
 use Rattle.protocol.specs.Rest.{Timed, power, rest, frame, timer}
-use Rattle.protocol.specs.Machine.{taken, gives}
+use Rattle.protocol.specs.Machine.{taken, go, gives}
 use Rattle.protocol.specs.Division.{dataBits, topBit, word, fits, byteOf}
 use Rattle.protocol.specs.Header.{Header, wrong, access, command, header}
-use Rattle.protocol.specs.Memory.{Memory, allows, holds, stored}
+use Rattle.protocol.specs.Memory.{Memory, allows, holds, stored, delay}
 use Rattle.protocol.specs.Entries.{Kind, Event, event}
 use Rattle.protocol.specs.Slave
 use Rattle.protocol.specs.Chain
@@ -59,9 +59,10 @@ pub data Sim (ks : List Memory) : Account.Phase → (ℕ → Slave.Phase) → Re
   -- W is next, and there is no slave at place id: R was answered 0.
   at-W-absent : (id address : ℕ) (r : Bool) → getElem? ks id ≡ none
       → Sim ks (Account.askW id address r) (λ i. Slave.deaf) (Reader.askW id address (lockOf ks) r false)
-  -- The slave at place id has accepted, and a byte's S is next.
-  at-S : (write : Bool) (id address nth : ℕ) (k : Memory) → getElem? ks id ≡ some k
-      → Sim ks (Account.byteS write id address nth) (only id (Slave.byteS write address nth)) (Reader.byteS write id address nth)
+  -- The slave at place id has accepted, and a byte's S is next; the reader knows whether it came before.
+  at-S : (write : Bool) (id address nth unconfirmed : ℕ) (k : Memory) → getElem? ks id ≡ some k
+      → Sim ks (Account.byteS write id address nth unconfirmed) (only id (Slave.byteS write address nth unconfirmed))
+      (Reader.byteS write id address nth (ltb 0 unconfirmed))
   -- The slave sends the byte that stands at the address, and the reader has collected the bits above those that are left.
   in-read : (id address nth left w got : ℕ) (k : Memory) → getElem? ks id ≡ some k
       → got ≡ word dataBits (holds k address) / 2 ^ suc left
@@ -188,6 +189,23 @@ module _ (ks : List Memory) (bs : Bytes ks) (z z′ : ℕ) where
   collects id address left got k e h =
       rw h (push-bit left (word dataBits (holds k address)) (omega (arith, word-lt dataBits (holds k address) (byte-at id address k e))))
 
+  -- S is confirmed: a byte is read, or written.
+  opens : (write : Bool) (id address nth unconfirmed : ℕ) (k : Memory) → getElem? ks id ≡ some k → timer z true ≡ some z′
+      → ltb unconfirmed (delay k write nth) ≡ false
+      → Next ks (framed z (only id (Slave.byteS write address nth unconfirmed))) true (taken z′ (go (Account.carries write id address nth topBit 0)))
+      (λ x. taken z′ (Reader.look (Reader.byteS write id address nth (ltb 0 unconfirmed)) true x))
+  unfolding Reader.look Slave.speak
+  opens false id address nth unconfirmed k e t q =
+      let what : ℕ = word dataBits (holds k address) in
+      let small : what < 2 ^ suc topBit = word-lt dataBits (holds k address) (byte-at id address k e) in
+      to (only id (Slave.sends address nth topBit what)) true
+      (speaks true t id (Slave.byteS false address nth unconfirmed) (Slave.sends address nth topBit what) true k e (λ b. rw q))
+      (in-read id address nth topBit 0 0 k e (sym (div-eq-of-lt small))) refl bs tt
+  opens true id address nth unconfirmed k e t q =
+      to (only id (Slave.takes address nth topBit 0)) true
+      (speaks true t id (Slave.byteS true address nth unconfirmed) (Slave.takes address nth topBit 0) true k e (λ b. rw q))
+      (in-write id address nth topBit 0 k e) refl bs tt
+
   -- One column of a frame, in each of the cases above.
   pub advance : {p : Account.Phase} {f : ℕ → Slave.Phase} {r : Reader.Phase} → Sim ks p f r → (m : Bool) → timer z m ≡ some z′
       → Next ks (framed z f) m (taken z′ (Account.tell ks p m)) (λ x. taken z′ (Reader.look r m x))
@@ -227,9 +245,9 @@ module _ (ks : List Memory) (bs : Bytes ks) (z z′ : ℕ) where
       (λ q. rw q (to (λ i. Slave.deaf) (not m) (goes-deaf m t id (Slave.askW address r) (not m) k e (λ b. rw q)) all-deaf refl bs tt))
       (λ q. tested (allows k m address)
       (λ a. rw (q, e, a, locked, beq-same r)
-      (to (only id (Slave.byteS m address 1)) m
-      (speaks m t id (Slave.askW address r) (Slave.byteS m address 1) m k e (λ b. rw (q, a)))
-      (rw (beq-same m) (at-S m id address 1 k e)) (rw (beq-same m)) bs tt))
+      (to (only id (Slave.byteS m address 1 0)) m
+      (speaks m t id (Slave.askW address r) (Slave.byteS m address 1 0) m k e (λ b. rw (q, a)))
+      (rw (beq-same m) (at-S m id address 1 0 k e)) (rw (beq-same m)) bs tt))
       (λ a. rw (q, e, a, locked, beq-same r)
       (to (λ i. Slave.deaf) (not m) (goes-deaf m t id (Slave.askW address r) (not m) k e (λ b. rw (q, a)))
       (rw (beq-not m) all-deaf) (rw (beq-not m)) bs tt)))
@@ -238,18 +256,21 @@ module _ (ks : List Memory) (bs : Bytes ks) (z z′ : ℕ) where
       tested (Bool·beq r m)
       (λ q. rw q (to (λ i. Slave.deaf) false (deafened m t) all-deaf refl bs tt))
       (λ q. rw (q, e, unlocked) (to (λ i. Slave.deaf) false (deafened m t) all-deaf refl bs tt))
-  advance (at-S write id address nth k e) false t =
-      to (λ i. Slave.deaf) false (goes-deaf false t id (Slave.byteS write address nth) false k e (λ b. refl)) all-deaf refl bs tt
-  advance (at-S false id address nth k e) true t =
-      let what : ℕ = word dataBits (holds k address) in
-      let small : what < 2 ^ suc topBit = word-lt dataBits (holds k address) (byte-at id address k e) in
-      to (only id (Slave.sends address nth topBit what)) true
-      (speaks true t id (Slave.byteS false address nth) (Slave.sends address nth topBit what) true k e (λ b. refl))
-      (in-read id address nth topBit 0 0 k e (sym (div-eq-of-lt small))) refl bs tt
-  advance (at-S true id address nth k e) true t =
-      to (only id (Slave.takes address nth topBit 0)) true
-      (speaks true t id (Slave.byteS true address nth) (Slave.takes address nth topBit 0) true k e (λ b. refl))
-      (in-write id address nth topBit 0 k e) refl bs tt
+  advance (at-S write id address nth unconfirmed k e) false t =
+      let passes = goes-deaf false t id (Slave.byteS write address nth unconfirmed) false k e (λ b. refl) in
+      tested (ltb 0 unconfirmed)
+      (λ q. rw q (to (λ i. Slave.deaf) false passes all-deaf refl bs tt))
+      (λ q. rw q (to (λ i. Slave.deaf) false passes all-deaf refl bs tt))
+  advance (at-S write id address nth unconfirmed k e) true t =
+      let p : Slave.Phase = Slave.byteS write address nth unconfirmed in
+      let p′ : Slave.Phase = Slave.byteS write address nth (unconfirmed + 1) in
+      let again : Sim ks (Account.byteS write id address nth (unconfirmed + 1)) (only id p′) (Reader.byteS write id address nth (ltb 0 (unconfirmed + 1)))
+      = at-S write id address nth (unconfirmed + 1) k e in
+      tested (ltb unconfirmed (delay k write nth))
+      (λ q. rw (e, q)
+      (to (only id p′) false (speaks true t id p p′ false k e (λ b. rw q))
+      (rw (lt-ltb 0 (unconfirmed + 1) (omega arith)) at again) refl bs tt))
+      (λ q. rw (e, q) (opens write id address nth unconfirmed k e t q))
   advance (in-read id address nth (suc left) w got k e h) m t =
       let what : ℕ = word dataBits (holds k address) in
       to (only id (Slave.sends address nth left what)) (bit (suc left) what)
@@ -283,9 +304,9 @@ module _ (ks : List Memory) (bs : Bytes ks) (z z′ : ℕ) where
       (speaks m t id p (Slave.askP true false address nth) m k e (λ b. rw q)) (at-P true false id address nth k e) refl bs tt))
   advance (at-P write good id address nth k e) m t =
       let p : Slave.Phase = Slave.askP write good address nth in
-      let p′ : Slave.Phase = Slave.byteS write (address + 1) (nth + 1) in
+      let p′ : Slave.Phase = Slave.byteS write (address + 1) (nth + 1) 0 in
       tested (good && Slave.more k write address nth)
       (λ q. let room = goes-on k write good address nth q .0 in
       rw (e, q)
-      (to (only id p′) false (speaks m t id p p′ false k e (λ b. rw q)) (rw room (at-S write id (address + 1) (nth + 1) k e)) (rw room) bs tt))
+      (to (only id p′) false (speaks m t id p p′ false k e (λ b. rw q)) (rw room (at-S write id (address + 1) (nth + 1) 0 k e)) (rw room) bs tt))
       (λ q. rw (e, q) (to (λ i. Slave.deaf) true (goes-deaf m t id p true k e (λ b. rw q)) all-deaf refl bs tt))

@@ -1,4 +1,4 @@
--- Two runs: chains with the same rights whose registers differ only where no read is allowed answer alike. Each slave of the one stands
+-- Two runs: chains with the same rights and waits whose registers differ only where no read is allowed answer alike. Each slave of the one stands
 -- in the state of its twin in the other, and a slave that waits at the S of a read may read there. Assumes nothing.
 use mathlib.Core.Path.{_≡_, refl, sym, ap₂, subst, _∙_}
 use mathlib.Core.Bool.{Bool, true, false, cond, not, _&&_, Bool·beq, false≢true}
@@ -15,16 +15,17 @@ use Rattle.protocol.specs.Rest.{Timed, rest, frame, powerOn}
 use Rattle.protocol.specs.Machine.{taken}
 use Rattle.protocol.specs.Division.{dataBits, fits, byteOf}
 use Rattle.protocol.specs.Header.{Header, wrong, access, command, header}
-use Rattle.protocol.specs.Memory.{Memory, allows, holds, stored}
-use Rattle.protocol.specs.Slave.{Phase, deaf, locks, head, askR, askW, byteS, sends, takes, askP, Turn, turn, called, more, speak, Slave, slave, Step, stepped, step, slaveOf}
+use Rattle.protocol.specs.Memory.{Memory, allows, holds, stored, delay}
+use Rattle.protocol.specs.Slave.{Phase, deaf, locks, head, askR, askW, byteS, sends, takes, askP, Turn, turn, called, more, confirmed, speak, Slave, slave, Step, stepped, step, slaveOf}
 use Rattle.protocol.specs.Chain.{Passed, pass, column, answers, switchedOn}
 use Rattle.laws.proofs.Every.{either, Matched}
 use Rattle.protocol.proofs.Memories.{goes-on}
 use Rattle.protocol.proofs.Machine.{At, judged}
 
--- The same rights, as many registers, and the same byte in every register that may be read; of the others nothing is asked.
+-- The same rights, the same waits, as many registers, and the same byte in every register that may be read; of the others nothing is asked.
 pub record Like (k k′ : Memory) : Type 0 where
   pub rights : (write : Bool) (address : ℕ) → allows k write address ≡ allows k′ write address
+  pub delays : (write : Bool) (nth : ℕ) → delay k write nth ≡ delay k′ write nth
   pub size : length (k .registers) ≡ length (k′ .registers)
   pub readable : (address : ℕ) → allows k false address ≡ true → holds k address ≡ holds k′ address
 
@@ -39,8 +40,8 @@ Open k (locks column so-far number) = Unit {0}
 Open k (head column so-far number) = Unit {0}
 Open k (askR address) = Unit {0}
 Open k (askW address r) = Unit {0}
-Open k (byteS false address nth) = allows k false address ≡ true
-Open k (byteS true address nth) = Unit {0}
+Open k (byteS false address nth unconfirmed) = allows k false address ≡ true
+Open k (byteS true address nth unconfirmed) = Unit {0}
 Open k (sends address nth left what) = Unit {0}
 Open k (takes address nth left so-far) = Unit {0}
 Open k (askP write good address nth) = Unit {0}
@@ -57,9 +58,15 @@ open-called k (access id address) none = tt
 open-called k (access id address) (some i) = either (Open k) (eqb i id) tt tt
 
 -- Accepted: the right allows the access.
-open-byte : (k : Memory) (write : Bool) (address nth : ℕ) → allows k write address ≡ true → Open k (byteS write address nth)
+open-byte : (k : Memory) (write : Bool) (address nth : ℕ) → allows k write address ≡ true → Open k (byteS write address nth 0)
 open-byte k false address nth h = h
 open-byte k true address nth h = tt
+
+-- While it waits it stays so.
+open-still : (k : Memory) (write : Bool) (address nth unconfirmed : ℕ) → Open k (byteS write address nth unconfirmed)
+    → Open k (byteS write address nth (unconfirmed + 1))
+open-still k false address nth unconfirmed h = h
+open-still k true address nth unconfirmed h = tt
 
 -- The same write in both.
 set-like : (l l′ : List ℕ) (i j v : ℕ) → length l ≡ length l′ → getD l j 0 ≡ getD l′ j 0 → getD (set l i v) j 0 ≡ getD (set l′ i v) j 0
@@ -72,10 +79,11 @@ set-like (x ∷ l) (y ∷ l′) (suc i) zero v n e = e
 set-like (x ∷ l) (y ∷ l′) (suc i) (suc j) v n e = set-like l l′ i j v (suc-inj n) e
 
 like-stored : (k k′ : Memory) (address v : ℕ) → Like k k′ → Like (stored k address v) (stored k′ address v)
-unfolding allows holds stored
+unfolding allows holds stored delay
 like-stored k k′ address v l =
     record {
       rights = l .rights;
+      delays = l .delays;
       size = length-set (k .registers) address v ∙ l .size ∙ sym (length-set (k′ .registers) address v);
       readable = λ a h. set-like (k .registers) (k′ .registers) address a v (l .size) (l .readable a h);
     }
@@ -87,8 +95,8 @@ like-took k k′ address w l false = l
 
 -- W and P: a slave goes on where its right allows it, and otherwise goes deaf.
 decides : (k k′ : Memory) (write : Bool) (address nth : ℕ) (x y test : Bool) → Like k k′ → (test ≡ true → allows k write address ≡ true)
-    → SameTurn (cond test (turn (byteS write address nth) x k) (turn deaf y k)) (cond test (turn (byteS write address nth) x k′) (turn deaf y k′))
-decides k k′ write address nth x y true l h = same (byteS write address nth) x l (open-byte k write address nth (h refl))
+    → SameTurn (cond test (turn (byteS write address nth 0) x k) (turn deaf y k)) (cond test (turn (byteS write address nth 0) x k′) (turn deaf y k′))
+decides k k′ write address nth x y true l h = same (byteS write address nth 0) x l (open-byte k write address nth (h refl))
 decides k k′ write address nth x y false l h = same deaf y l tt
 
 second : (a b : Bool) → a && b ≡ true → b ≡ true
@@ -98,6 +106,18 @@ second false b h = absurd (false≢true h)
 same-more : (k k′ : Memory) (write : Bool) (address nth : ℕ) → Like k k′ → more k′ write address nth ≡ more k write address nth
 unfolding more
 same-more k k′ write address nth l = rw (l .rights write (address + 1))
+
+-- S is confirmed, or not yet.
+same-confirmed : (k k′ : Memory) (write : Bool) (address nth unconfirmed : ℕ) → Like k k′ → Open k (byteS write address nth unconfirmed)
+    → SameTurn (turn (confirmed k write address nth) true k) (turn (confirmed k′ write address nth) true k′)
+same-confirmed k k′ false address nth unconfirmed l o = rw (← l .readable address o) (same _ true l tt)
+same-confirmed k k′ true address nth unconfirmed l o = same _ true l tt
+
+waits : (k k′ : Memory) (write : Bool) (address nth unconfirmed : ℕ) (test : Bool) → Like k k′ → Open k (byteS write address nth unconfirmed)
+    → SameTurn (cond test (turn (byteS write address nth (unconfirmed + 1)) false k) (turn (confirmed k write address nth) true k))
+    (cond test (turn (byteS write address nth (unconfirmed + 1)) false k′) (turn (confirmed k′ write address nth) true k′))
+waits k k′ write address nth unconfirmed true l o = same _ false l (open-still k write address nth unconfirmed o)
+waits k k′ write address nth unconfirmed false l o = same-confirmed k k′ write address nth unconfirmed l o
 
 -- A column does the same to both: only the S of a read looks at a register, and there the slave may read.
 same-turn : (k k′ : Memory) (p : Phase) (m b : Bool) → Like k k′ → Open k p → SameTurn (speak k p m b) (speak k′ p m b)
@@ -109,9 +129,9 @@ same-turn k k′ (head column so-far number) m b l o =
 same-turn k k′ (askR address) m b l o = same (askW address m) m l tt
 same-turn k k′ (askW address r) m b l o =
     rw (← l .rights m address) (decides k k′ m address 1 m (not m) (not (Bool·beq r m) && allows k m address) l (second (not (Bool·beq r m)) _))
-same-turn k k′ (byteS write address nth) false b l o = same deaf false l tt
-same-turn k k′ (byteS false address nth) true b l o = rw (← l .readable address o) (same _ true l tt)
-same-turn k k′ (byteS true address nth) true b l o = same _ true l tt
+same-turn k k′ (byteS write address nth unconfirmed) false b l o = same deaf false l tt
+same-turn k k′ (byteS write address nth unconfirmed) true b l o =
+    rw (← l .delays write nth) (waits k k′ write address nth unconfirmed (ltb unconfirmed (delay k write nth)) l o)
 same-turn k k′ (sends address nth zero what) m b l o = same _ _ l tt
 same-turn k k′ (sends address nth (suc left) what) m b l o = same _ _ l tt
 same-turn k k′ (takes address nth zero so-far) m b l o =

@@ -2,33 +2,34 @@
 -- and P goes on to the next. The columns of a header and of a byte are computed; byte follows byte by induction. Assumes nothing.
 use mathlib.Core.Path.{_≡_, refl, ap, ap₂, _∙_}
 use mathlib.Core.Bool.{Bool, true, false, not, cond}
-use mathlib.Core.List.{List, [], _∷_, _++_, append-nil, head-eq-of-cons-eq, tail-eq-of-cons-eq}
+use mathlib.Core.List.{List, [], _∷_, _++_, map, append-nil, head-eq-of-cons-eq, tail-eq-of-cons-eq}
 use mathlib.Core.Option.{some}
-use Prim.Native.Nat.{ℕ, zero, suc, _+_, _/_, _^_, _<_}
-use native.Mathlib.Nat.{add-zero, add-assoc, div-eq-of-lt, div-one}
+use Prim.Native.Nat.{ℕ, zero, suc, _+_, _*_, _/_, _^_, _<_}
+use native.Mathlib.Nat.{add-zero, add-assoc, mul-suc, div-eq-of-lt, div-one}
+use native.Mathlib.Numerals.{add-one}
 use native.Mathlib.Omega.{arith}
-use borrow.Author.Tests.{lt-ltb}
+use borrow.Author.Tests.{lt-ltb, le-ltb, ne-eqb}
 use lib.ListN.{length, replicate, getElem?, set}
 use Rattle.protocol.specs.Limits.{restZeros, headerColumns, registerCount, byteLimit}
 use Rattle.protocol.specs.Bits.{bits, push}
 use Rattle.protocol.specs.Rest.{judge, timer}
 use Rattle.protocol.specs.Division.{headerBits, dataBits, topBit, word, fits, byteOf}
 use Rattle.protocol.specs.Header.{Header, header, accessWord, commandWord}
-use Rattle.protocol.specs.Memory.{Memory, allows, holds, stored}
+use Rattle.protocol.specs.Memory.{Memory, allows, holds, stored, delayBy, delay}
 use Rattle.protocol.specs.Slave.{more}
-use Rattle.protocol.specs.Building.{frameHead, readBytes, writeBytes, frameOf, rowFor}
+use Rattle.protocol.specs.Building.{frameHead, byteColumns, frameOf, rowFor}
 use Rattle.protocol.specs.Building
 use Rattle.protocol.specs.Entries.{Kind, event, Entry}
-use Rattle.protocol.specs.Account.{Phase, askR, byteS, askP, Told, headed, asked, tell, begun, step, account}
+use Rattle.protocol.specs.Account.{Phase, askR, byteS, carries, askP, Told, headed, asked, tell, begun, step, account}
 use Rattle.protocol.specs.Replay.{put}
-use Rattle.protocol.specs.Understood.{frameAt, inFrame, Allowed, lockShown, commandShown, byteColumn, byteShown, bytesShown, standing, closing}
+use Rattle.protocol.specs.Understood.{frameAt, inFrame, Allowed, lockShown, commandShown, delayed, askedColumn, byteColumn, byteShown, bytesShown, standing, closing}
 use Rattle.protocol.proofs.Words.{push-bit, word-lt, byte-word, header-access, header-command}
 use Rattle.protocol.proofs.Division.{accepted}
 use Rattle.laws.proofs.Every.{Every, tested, beq-not}
 use Rattle.laws.proofs.Places.{at-set}
 use Rattle.protocol.proofs.Memories.{Bytes, stored-set}
 use Rattle.protocol.proofs.Sim.{kept}
-use Rattle.protocol.proofs.Zeros.{asking, carrying, none-carried, frame-asking, calm, header-calm, access-calm}
+use Rattle.protocol.proofs.Zeros.{asking, twelveOf, carrying, frame-asking, calm, header-calm, access-calm}
 use Rattle.protocol.proofs.Walk.{Walk, noted, walk, phases, account-walk, walk-phases}
 
 -- The bits of a word, collected as they come, are the word.
@@ -72,13 +73,10 @@ module _ (ks : List Memory) (v : ℕ) (next : List Bool) (small : v < 2 ^ header
       ∙ ap (λ (w : Walk _). w .told) (walk-phases ks begun 0 (frameAt (restZeros + 1)) (bits headerColumns (word headerBits v) ++ next) z)
       ∙ ap (λ (w : Walk _). w .told) header-shown
 
--- The kind of a byte's entry, and the memory after it; the rights are what they were.
-kindOf : (write : Bool) → Kind
-kindOf false = Kind.read
-kindOf true = Kind.written
-
+-- The memory after a byte; rights and waiting number are what they were.
 after : (write : Bool) → Memory → (address v : ℕ) → Memory
-after write k address v = record { registers = cond write (set (k .registers) address v) (k .registers); rights = k .rights }
+after write k address v =
+    record { registers = cond write (set (k .registers) address v) (k .registers); rights = k .rights; wait = k .wait }
 
 -- The bytes of a read are those that stand there; those of a write are below 256.
 Carried : (write : Bool) → Memory → (address : ℕ) → List ℕ → Type 0
@@ -95,74 +93,109 @@ carried-next true k address i v vs h = h .1
 abbrev gives : List Memory → Entry → Phase → List Bool → Walk Phase
 gives ks e q next = gave e (phases (put ks (e .event)) q (frameAt (suc (e .place .column))) next)
 
--- Byte i up to its P.
-byte-shown : (write : Bool) (i v : ℕ) (vs : List ℕ) {ks : List Memory} {k : Memory} {id address count : ℕ}
+-- Byte 0 is asked for behind W.
+first-asked : (wait : ℕ) (write : Bool) → askedColumn wait write 0 ≡ restZeros + headerColumns + 3
+first-asked wait false = omega arith
+first-asked wait true = omega arith
+
+-- The columns in which byte i waits are those between its first S and the one that is confirmed.
+confirmed-column : (wait : ℕ) (write : Bool) (i : ℕ) → askedColumn wait write i + delayBy wait write (i + 1) ≡ byteColumn wait write i
+unfolding delayBy
+confirmed-column wait false i = rw (mul-suc wait i) (omega arith)
+confirmed-column wait true zero = omega arith
+confirmed-column wait true (suc i) = rw (mul-suc wait i, ne-eqb (suc i + 1) 1 (λ e. omega arith)) (omega arith)
+
+-- Byte i up to its P, behind a confirmed S.
+carried-shown : (write : Bool) (i v : ℕ) (vs : List ℕ) (next : List Bool) {ks : List Memory} {k : Memory} {id address count : ℕ}
     → Allowed ks k write id address count → Carried write k (address + i) (v ∷ vs)
-    → phases ks (byteS write id (address + i) (i + 1)) (frameAt (byteColumn i)) (carrying write (v ∷ vs))
-    ≡ gives ks (byteShown (kindOf write) id address i v) (askP write true id (address + i) (i + 1)) (false ∷ carrying write vs)
-unfolding phases tell readBytes writeBytes bits pushed put kindOf Carried standing
-byte-shown false i v vs {ks} {id = id} {address} a h =
-    ap₂ (λ (c u : ℕ). gives ks (inFrame c (event Kind.read id (address + i) u)) (askP false true id (address + i) (i + 1)) (false ∷ carrying false vs))
+    → phases ks (carries write id (address + i) (i + 1) topBit 0) (frameAt (suc (byteColumn (k .wait) write i))) (twelveOf write v ++ next)
+    ≡ gives ks (byteShown (k .wait) write id address i v) (askP write true id (address + i) (i + 1)) next
+unfolding phases tell bits pushed put Carried standing
+carried-shown false i v vs next {ks} {k} {id} {address} a h =
+    ap₂ (λ (c u : ℕ). gives ks (inFrame c (event Kind.read id (address + i) u)) (askP false true id (address + i) (i + 1)) next)
     (omega arith) (rw (a .held) (head-eq-of-cons-eq h))
-byte-shown true i v vs {ks} {id = id} {address} a h =
+carried-shown true i v vs next {ks} {k} {id} {address} a h =
     let l : word dataBits v < 2 ^ (topBit + 1) = word-lt dataBits v (h .0) in
     ap₂ (λ (c u : ℕ). gives ks (inFrame c (event (cond (fits dataBits u) Kind.written Kind.writebad) id (address + i) (byteOf u)))
-    (askP true (fits dataBits u) id (address + i) (i + 1)) (false ∷ carrying true vs))
-    {y = byteColumn i + (topBit + 1)} (omega arith) (collected (topBit + 1) (word dataBits v) (omega arith) l)
+    (askP true (fits dataBits u) id (address + i) (i + 1)) next)
+    {y = byteColumn (k .wait) true i + (topBit + 1)} (omega arith) (collected (topBit + 1) (word dataBits v) (omega arith) l)
     ∙ rw (accepted dataBits v, byte-word v (h .0))
 
 module _ {ks : List Memory} {k : Memory} {write : Bool} {id address count : ℕ} (a : Allowed ks k write id address count) where
   -- R and W, and on to byte 0.
   asked-shown : (next : List Bool) → 0 < count
       → phases ks (askR id address) (frameAt (restZeros + headerColumns + 1)) (not write ∷ write ∷ next)
-      ≡ phases ks (byteS write id (address + 0) 1) (frameAt (byteColumn 0)) next
+      ≡ phases ks (byteS write id (address + 0) 1 0) (frameAt (askedColumn (k .wait) write 0)) next
   unfolding phases tell asked
   asked-shown next h =
       let r : allows k write address ≡ true = rw add-zero at (a .allowed 0 h) in
-      rw (beq-not write, a .held, r, add-zero address)
+      rw (beq-not write, a .held, r, add-zero address, first-asked (k .wait) write)
+
+  -- S, as often as it is not confirmed, and then confirmed.
+  waits-shown : (nth at : ℕ) (next : List Bool) (left unconfirmed c : ℕ) → unconfirmed + left ≡ delay k write nth
+      → phases ks (byteS write id at nth unconfirmed) (frameAt c) (replicate left true ++ true ∷ next)
+      ≡ phases ks (carries write id at nth topBit 0) (frameAt (suc (c + left))) next
+  unfolding phases tell
+  waits-shown nth at next zero unconfirmed c e = rw (a .held, le-ltb unconfirmed (delay k write nth) (omega arith), add-zero)
+  waits-shown nth at next (suc left) unconfirmed c e =
+      rw (a .held, lt-ltb unconfirmed (delay k write nth) (omega arith))
+      (waits-shown nth at next left (unconfirmed + 1) (suc c) (omega arith)
+      ∙ ap (λ (d : ℕ). phases ks (carries write id at nth topBit 0) (frameAt d) next) (omega arith))
+
+  -- Byte i up to its P.
+  byte-shown : (i v : ℕ) (vs : List ℕ) → Carried write k (address + i) (v ∷ vs)
+      → phases ks (byteS write id (address + i) (i + 1) 0) (frameAt (askedColumn (k .wait) write i)) (carrying write (k .wait) (i + 1) (v ∷ vs))
+      ≡ gives ks (byteShown (k .wait) write id address i v) (askP write true id (address + i) (i + 1))
+      (false ∷ carrying write (k .wait) (i + 1 + 1) vs)
+  unfolding byteColumns delay
+  byte-shown i v vs h =
+      waits-shown (i + 1) (address + i) _ (delayBy (k .wait) write (i + 1)) 0 (askedColumn (k .wait) write i) (omega arith)
+      ∙ rw (confirmed-column (k .wait) write i) (carried-shown write i v vs (false ∷ carrying write (k .wait) (i + 1 + 1) vs) a h)
 
   -- P of byte i, the last ..
-  last-shown : (i : ℕ) → phases ks (askP write true id (address + i) (i + 1)) (frameAt (suc (byteColumn i + (topBit + 1)))) (false ∷ []) .told
+  last-shown : (i : ℕ)
+      → phases ks (askP write true id (address + i) (i + 1)) (frameAt (suc (byteColumn (k .wait) write i + (topBit + 1)))) (false ∷ []) .told
       ≡ closing k write id address i
   unfolding phases tell
   last-shown i =
-      let c : suc (byteColumn i + (topBit + 1)) ≡ byteColumn i + (topBit + 2) = omega arith in
+      let c : suc (byteColumn (k .wait) write i + (topBit + 1)) ≡ byteColumn (k .wait) write i + (topBit + 2) = omega arith in
       rw (a .held, c) (tested (more k write (address + i) (i + 1)) (λ q. rw q) (λ q. rw q))
 
   -- .. or not, and on to the next.
   goes-shown : (i : ℕ) (next : List Bool) → i + 1 < count
-      → phases ks (askP write true id (address + i) (i + 1)) (frameAt (suc (byteColumn i + (topBit + 1)))) (false ∷ next)
-      ≡ phases ks (byteS write id (address + (i + 1)) (i + 1 + 1)) (frameAt (byteColumn (i + 1))) next
+      → phases ks (askP write true id (address + i) (i + 1)) (frameAt (suc (byteColumn (k .wait) write i + (topBit + 1)))) (false ∷ next)
+      ≡ phases ks (byteS write id (address + (i + 1)) (i + 1 + 1) 0) (frameAt (askedColumn (k .wait) write (i + 1))) next
   unfolding phases tell more
   goes-shown i next h =
-      let c : suc (suc (byteColumn i + (topBit + 1))) ≡ byteColumn (i + 1) = omega arith in
+      let c : suc (suc (byteColumn (k .wait) write i + (topBit + 1))) ≡ askedColumn (k .wait) write (i + 1) = rw (add-one i) (omega arith) in
       let there : address + (i + 1) < registerCount = omega arith in
       let few : i + 1 < byteLimit = omega arith in
       rw (a .held, add-assoc address i 1, lt-ltb _ _ there, a .allowed (i + 1) h, lt-ltb _ _ few, c)
 
   -- A byte takes no right away.
   allowed-after : (i v : ℕ)
-      → Allowed (put ks (byteShown (kindOf write) id address i v .event)) (after write k (address + i) v) write id address count
-  unfolding put kindOf after stored allows
+      → Allowed (put ks (byteShown (k .wait) write id address i v .event)) (after write k (address + i) v) write id address count
+  unfolding put after stored allows
   allowed-after i v =
       record { numbered = a .numbered; held = held write; there = a .there; few = a .few; allowed = a .allowed }
     where
-      held : (w : Bool) → getElem? (put ks (byteShown (kindOf w) id address i v .event)) id ≡ some (after w k (address + i) v)
+      held : (w : Bool) → getElem? (put ks (byteShown (k .wait) w id address i v .event)) id ≡ some (after w k (address + i) v)
       held false = a .held
       held true = rw (stored-set ks id (address + i) v k (a .held)) (at-set ks id k (stored k (address + i) v) (a .held))
 
 -- Byte i and those after it, the last of them byte n.
 bytes-shown : (write : Bool) (i v n : ℕ) (vs : List ℕ) {ks : List Memory} {k : Memory} {id address : ℕ} → i + length vs ≡ n
     → Allowed ks k write id address (suc n) → Carried write k (address + i) (v ∷ vs)
-    → phases ks (byteS write id (address + i) (i + 1)) (frameAt (byteColumn i)) (carrying write (v ∷ vs)) .told
-    ≡ bytesShown (kindOf write) id address i (v ∷ vs) ++ closing k write id address n
-unfolding bytesShown more allows after
+    → phases ks (byteS write id (address + i) (i + 1) 0) (frameAt (askedColumn (k .wait) write i))
+    (carrying write (k .wait) (i + 1) (v ∷ vs)) .told
+    ≡ bytesShown (k .wait) write id address i (v ∷ vs) ++ closing k write id address n
+unfolding bytesShown byteColumns more allows after
 bytes-shown write i v n [] e a h =
     let last : n ≡ i = omega arith in
-    rw (byte-shown write i v [] a h, none-carried write, last-shown (allowed-after a i v) i, last)
+    rw (byte-shown a i v [] h, last-shown (allowed-after a i v) i, last)
 bytes-shown write i v n (w ∷ vs) {k = k} {id} {address} e a h =
-    rw (byte-shown write i v (w ∷ vs) a h, goes-shown (allowed-after a i v) i (carrying write (w ∷ vs)) (omega arith))
-    (ap (λ (l : List Entry). byteShown (kindOf write) id address i v ∷ l)
+    rw (byte-shown a i v (w ∷ vs) h, goes-shown (allowed-after a i v) i (carrying write (k .wait) (i + 1 + 1) (w ∷ vs)) (omega arith))
+    (ap (λ (l : List Entry). byteShown (k .wait) write id address i v ∷ l)
     (bytes-shown write (i + 1) w n vs (omega arith) (allowed-after a i v) (carried-next write k address i v (w ∷ vs) h)))
 
 length-standing : (k : Memory) (address n : ℕ) → length (standing k address n) ≡ n
@@ -173,32 +206,32 @@ length-standing k address (suc n) = ap suc (length-standing k (address + 1) n)
 -- The accounts of the three requests.
 module _ (ks : List Memory) (bs : Bytes ks) where
   access-shown : (write : Bool) (k : Memory) (id address v : ℕ) (vs : List ℕ) → Allowed ks k write id address (suc (length vs))
-      → Carried write k address (v ∷ vs) → account ks (rowFor (asking write id address (v ∷ vs)))
-      ≡ lockShown ks ∷ bytesShown (kindOf write) id address 0 (v ∷ vs) ++ closing k write id address (length vs)
+      → Carried write k address (v ∷ vs) → account ks (rowFor (asking write id address (v ∷ vs) (k .wait)))
+      ≡ lockShown ks ∷ bytesShown (k .wait) write id address 0 (v ∷ vs) ++ closing k write id address (length vs)
   unfolding rowFor headed from-header
   access-shown write k id address v vs a h =
-      let next : List Bool = carrying write (v ∷ vs) in
+      let next : List Bool = carrying write (k .wait) 1 (v ∷ vs) in
       rw (
-        frame-asking write id address (v ∷ vs),
+        frame-asking write id address (v ∷ vs) (k .wait),
         frame-head-shown ks (accessWord id address) (not write ∷ write ∷ next) (omega arith) bs
-            (rw frame-asking at (access-calm write id address (v ∷ vs) (a .numbered) (omega arith))),
+            (rw frame-asking at (access-calm write id address (v ∷ vs) (k .wait) (a .numbered) (omega arith))),
         header-access id address (a .numbered) (omega arith),
         asked-shown a next (omega arith),
         bytes-shown write 0 v (length vs) vs (omega arith) a (rw add-zero h),
       )
 
   pub read-shown : (k : Memory) (id address n : ℕ) → Allowed ks k false id address (suc n)
-      → account ks (rowFor (Building.read id address (suc n)))
-      ≡ lockShown ks ∷ bytesShown Kind.read id address 0 (standing k address (suc n)) ++ closing k false id address n
-  unfolding standing Carried kindOf
+      → account ks (rowFor (Building.read id address (suc n) (k .wait)))
+      ≡ lockShown ks ∷ bytesShown (k .wait) false id address 0 (standing k address (suc n)) ++ closing k false id address n
+  unfolding standing Carried
   read-shown k id address n a =
       let l : length (standing k (address + 1) n) ≡ n = length-standing k (address + 1) n in
       rw l at (access-shown false k id address (holds k address) (standing k (address + 1) n) (rw l a) (rw l))
 
   pub write-shown : (k : Memory) (id address v : ℕ) (vs : List ℕ) → Allowed ks k true id address (suc (length vs))
-      → Every (λ v. v < 2 ^ dataBits) (v ∷ vs) → account ks (rowFor (Building.write id address (v ∷ vs)))
-      ≡ lockShown ks ∷ bytesShown Kind.written id address 0 (v ∷ vs) ++ closing k true id address (length vs)
-  unfolding Carried kindOf
+      → Every (λ v. v < 2 ^ dataBits) (v ∷ vs) → account ks (rowFor (Building.write id address (v ∷ vs) (k .wait)))
+      ≡ lockShown ks ∷ bytesShown (k .wait) true id address 0 (v ∷ vs) ++ closing k true id address (length vs)
+  unfolding Carried
   write-shown k id address v vs a h = access-shown true k id address v vs a h
 
   pub command-shown : (ids cmd : ℕ) → ids < 2 ^ 8 → cmd < 2 ^ 2

@@ -1,44 +1,46 @@
 -- Reads and writes as one frame; and no built frame holds fourteen zeros in a row, so nobody comes to rest in one: no header does, by a
 -- test of every word, and in a byte only thirteen columns follow S. Assumes nothing.
-use mathlib.Core.Path.{_≡_, refl}
+use mathlib.Core.Path.{_≡_, refl, ap}
 use mathlib.Core.Bool.{Bool, true, false, not, _&&_, _||_, and-assoc, false≢true}
-use mathlib.Core.List.{List, [], _∷_, _++_, append-assoc}
-use Prim.Native.Nat.{ℕ, _+_, _^_, _<_}
+use mathlib.Core.List.{List, [], _∷_, _++_, map, append-assoc}
+use Prim.Native.Nat.{ℕ, zero, suc, _+_, _^_, _<_}
 use native.Mathlib.Omega.{arith}
 use borrow.Author.Tests.{lt-ltb, ltb-true}
 use lib.Dec.{ltb}
-use lib.ListN.{length, length-append}
+use lib.ListN.{length, length-append, replicate}
 use lib.Seq.{append-snoc}
 use Rattle.protocol.specs.Limits.{restZeros, idCount, registerCount}
 use Rattle.protocol.specs.Bits.{bit, bits}
 use Rattle.protocol.specs.Division.{headerBits, dataBits, checkWidth, topBit, divideBit, divide, remainder, check, word}
 use Rattle.protocol.specs.Header.{accessWord}
-use Rattle.protocol.specs.Building.{Request, frameHead, readBytes, writeBytes, frameOf}
+use Rattle.protocol.specs.Building.{Request, frameHead, byteColumns, readBits, writeBits, frameOf}
 use Rattle.protocol.specs.Building
 use Rattle.laws.proofs.Table.{below}
 use Rattle.laws.proofs.Every.{tested}
 use Rattle.protocol.proofs.Division.{check-lt}
 use Rattle.protocol.proofs.Words.{bits-append, length-bits}
 
--- A read of as many bytes as the list has, or a write of the list; the columns of its bytes; its frame.
-abbrev pub asking : (write : Bool) → (id address : ℕ) → List ℕ → Request
-asking false id address vs = Building.read id address (length vs)
-asking true id address vs = Building.write id address vs
+-- A read of as many bytes as the list has, or a write of the list; a byte's twelve bits; the columns of its bytes; its frame.
+abbrev pub asking : (write : Bool) → (id address : ℕ) → List ℕ → (wait : ℕ) → Request
+asking false id address vs wait = Building.read id address (length vs) wait
+asking true id address vs wait = Building.write id address vs wait
 
-abbrev pub carrying : (write : Bool) → List ℕ → List Bool
-carrying false vs = readBytes (length vs)
-carrying true vs = writeBytes vs
+abbrev pub twelveOf : (write : Bool) → ℕ → List Bool
+twelveOf false v = readBits
+twelveOf true v = writeBits v
 
-pub none-carried : (write : Bool) → carrying write [] ≡ []
-unfolding readBytes writeBytes
-none-carried false = refl
-none-carried true = refl
+abbrev pub carrying : (write : Bool) → (wait nth : ℕ) → List ℕ → List Bool
+carrying write wait nth vs = byteColumns write wait nth (map (twelveOf write) vs)
 
-pub frame-asking : (write : Bool) (id address : ℕ) (vs : List ℕ)
-    → frameOf (asking write id address vs) ≡ frameHead (accessWord id address) ++ not write ∷ write ∷ carrying write vs
+all-zeros : (vs : List ℕ) → replicate (length vs) readBits ≡ map (twelveOf false) vs
+all-zeros [] = refl
+all-zeros (v ∷ vs) = ap (λ (l : List (List Bool)). readBits ∷ l) (all-zeros vs)
+
+pub frame-asking : (write : Bool) (id address : ℕ) (vs : List ℕ) (wait : ℕ)
+    → frameOf (asking write id address vs wait) ≡ frameHead (accessWord id address) ++ not write ∷ write ∷ carrying write wait 1 vs
 unfolding frameOf
-frame-asking false id address vs = refl
-frame-asking true id address vs = refl
+frame-asking false id address vs wait = rw (all-zeros vs)
+frame-asking true id address vs wait = refl
 
 -- With z zeros in a row before it, the row brings no fourteenth.
 unfoldable pub calm : ℕ → List Bool → Bool
@@ -65,15 +67,25 @@ calm-short z [] h = refl
 calm-short z (true ∷ ms) h = calm-short 0 ms (omega arith)
 calm-short z (false ∷ ms) h = rw (lt-ltb (z + 1) restZeros (omega arith)) (calm-short (z + 1) ms (omega arith))
 
--- A byte's S is a 1, and thirteen columns follow it.
-carrying-calm : (write : Bool) (z : ℕ) (vs : List ℕ) → calm z (carrying write vs) ≡ true
-unfolding calm readBytes writeBytes
-carrying-calm write z [] = rw (none-carried write)
-carrying-calm false z (v ∷ vs) = carrying-calm false (topBit + 2) vs
-carrying-calm true z (v ∷ vs) =
-    let bs : List Bool = bits (topBit + 1) (word dataBits v) in
-    let short : length (bs ++ false ∷ []) < restZeros = rw (length-append, length-bits) (omega arith) in
-    rw (← append-snoc bs false, calm-append, calm-short 0 (bs ++ false ∷ []) (omega arith)) (carrying-calm true _ vs)
+-- However often S, a 1, comes before.
+calm-ones : (z n : ℕ) (ms : List Bool) → calm z (replicate n true ++ true ∷ ms) ≡ calm 0 ms
+unfolding calm
+calm-ones z zero ms = refl
+calm-ones z (suc n) ms = calm-ones 0 n ms
+
+length-twelve : (write : Bool) (v : ℕ) → length (twelveOf write v) ≡ topBit + 1
+length-twelve false v = refl
+length-twelve true v = length-bits (topBit + 1) (word dataBits v)
+
+-- A byte's last S is a 1, and thirteen columns follow it.
+carrying-calm : (write : Bool) (wait nth z : ℕ) (vs : List ℕ) → calm z (carrying write wait nth vs) ≡ true
+unfolding calm byteColumns
+carrying-calm write wait nth z [] = refl
+carrying-calm write wait nth z (v ∷ vs) =
+    let bs : List Bool = twelveOf write v in
+    let short : length (bs ++ false ∷ []) < restZeros = rw (length-append, length-twelve write v) (omega arith) in
+    rw (calm-ones, ← append-snoc bs false, calm-append, calm-short 0 (bs ++ false ∷ []) (omega arith))
+    (carrying-calm write wait (nth + 1) _ vs)
 
 -- A header and a zero more, which is R of a write. Its check bits are worked out only where nine zeros or more stand before them.
 tried : ℕ → Bool
@@ -102,11 +114,13 @@ header-calm v h =
     (λ q. absurd (false≢true (rw (calm-append, q) at (header-and-zero v h))))
 
 -- .. and neither does that of a read or a write.
-pub access-calm : (write : Bool) (id address : ℕ) (vs : List ℕ) → id < idCount → address < registerCount
-    → calm 0 (frameOf (asking write id address vs)) ≡ true
-unfolding calm frameOf
-access-calm false id address vs h k =
-    rw (calm-append, header-calm (accessWord id address) (omega arith)) (carrying-calm false 1 vs)
-access-calm true id address vs h k =
+pub access-calm : (write : Bool) (id address : ℕ) (vs : List ℕ) (wait : ℕ) → id < idCount → address < registerCount
+    → calm 0 (frameOf (asking write id address vs wait)) ≡ true
+unfolding calm
+access-calm false id address vs wait h k =
+    rw (frame-asking false id address vs wait, calm-append, header-calm (accessWord id address) (omega arith))
+    (carrying-calm false wait 1 1 vs)
+access-calm true id address vs wait h k =
     let v : ℕ = accessWord id address in
-    rw (← append-snoc (frameHead v) false, calm-append, header-and-zero v (omega arith)) (carrying-calm true 0 vs)
+    rw (frame-asking true id address vs wait, ← append-snoc (frameHead v) false, calm-append, header-and-zero v (omega arith))
+    (carrying-calm true wait 1 0 vs)

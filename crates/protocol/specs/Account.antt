@@ -13,7 +13,7 @@ use Rattle.protocol.specs.Machine as machine
 use Rattle.protocol.specs.Machine.{go, gives, listing}
 use Rattle.protocol.specs.Division.{dataBits, topBit, fits, byteOf}
 use Rattle.protocol.specs.Header.{Header, wrong, access, command, header}
-use Rattle.protocol.specs.Memory.{Memory, allows, holds}
+use Rattle.protocol.specs.Memory.{Memory, allows, holds, delay}
 use Rattle.protocol.specs.Slave.{Slave, more}
 use Rattle.protocol.specs.Chain.{column, memories, switchedOn}
 use Rattle.protocol.specs.Entries.{Kind, Event, event, Place, opened, onward, Entry, note}
@@ -25,7 +25,7 @@ pub data Phase : Type 0 where
   head : (column so-far : ℕ) → Phase
   askR : (id address : ℕ) → Phase
   askW : (id address : ℕ) → (r : Bool) → Phase
-  byteS : (write : Bool) → (id address nth : ℕ) → Phase
+  byteS : (write : Bool) → (id address nth unconfirmed : ℕ) → Phase
   carries : (write : Bool) → (id address nth left so-far : ℕ) → Phase
   askP : (write good : Bool) → (id address nth : ℕ) → Phase
 
@@ -51,12 +51,17 @@ headed (access id address) = go (askR id address)
 unfoldable pub asked : Option Memory → (id address : ℕ) → (w : Bool) → Told
 asked none id address w = gives (event Kind.absent id address 0) deaf
 asked (some k) id address w =
-    cond (allows k w address) (go (byteS w id address 1)) (gives (event Kind.refused id address (num w)) deaf)
+    cond (allows k w address) (go (byteS w id address 1 0)) (gives (event Kind.refused id address (num w)) deaf)
 
 -- What stands at a register of a slave that may be there.
 abbrev pub heldAt : Option Memory → ℕ → ℕ
 heldAt none address = 0
 heldAt (some k) address = holds k address
+
+-- How long the S of a byte is not confirmed by a slave that may be there.
+abbrev pub delayAt : Option Memory → (write : Bool) → (nth : ℕ) → ℕ
+delayAt none write nth = 0
+delayAt (some k) write nth = delay k write nth
 
 -- P of a slave that may be there.
 abbrev pub moreAt : Option Memory → (write : Bool) → (address nth : ℕ) → Bool
@@ -74,8 +79,10 @@ tell ks (head column so-far) m =
 tell ks (askR id address) m = go (askW id address m)
 tell ks (askW id address r) m =
     cond (Bool·beq r m) (gives (event Kind.pair id address 0) deaf) (asked (slaveAt ks id) id address m)
-tell ks (byteS write id address nth) false = go deaf
-tell ks (byteS write id address nth) true = go (carries write id address nth topBit 0)
+tell ks (byteS write id address nth unconfirmed) false = cond (ltb 0 unconfirmed) (gives (event Kind.mute id address 0) deaf) (go deaf)
+tell ks (byteS write id address nth unconfirmed) true =
+    cond (ltb unconfirmed (delayAt (slaveAt ks id) write nth)) (go (byteS write id address nth (unconfirmed + 1)))
+    (go (carries write id address nth topBit 0))
 tell ks (carries write id address nth (suc left) so-far) m = go (carries write id address nth left (push so-far m))
 tell ks (carries false id address nth zero so-far) m =
     gives (event Kind.read id address (heldAt (slaveAt ks id) address)) (askP false true id address nth)
@@ -83,7 +90,7 @@ tell ks (carries true id address nth zero so-far) m =
     gives (event (cond (fits dataBits (push so-far m)) Kind.written Kind.writebad) id address (byteOf (push so-far m)))
     (askP true (fits dataBits (push so-far m)) id address nth)
 tell ks (askP write good id address nth) m =
-    cond (good && moreAt (slaveAt ks id) write address nth) (go (byteS write id (address + 1) (nth + 1)))
+    cond (good && moreAt (slaveAt ks id) write address nth) (go (byteS write id (address + 1) (nth + 1) 0))
     (gives (event Kind.closed id address 0) deaf)
 
 -- The phase after S.

@@ -24,7 +24,7 @@ lockRow = replicate restZeros false ++ true ∷ replicate lockLast false
 
 -- A slave with nothing in its registers and no rights.
 abbrev pub blank : Memory
-blank = record { registers = replicate registerCount 0; rights = replicate registerCount 0 }
+blank = record { registers = replicate registerCount 0; rights = replicate registerCount 0; wait = 0 }
 
 -- The values of a list's entries.
 abbrev pub values : List Entry → List ℕ

@@ -33,14 +33,15 @@ seen idl mixed x = mixed
 abbrev pub seenAt : (column : ℕ) → Locks → Bool → Locks
 seenAt column l x = cond (ltb column lockFirst) l (seen (column - lockFirst) l x)
 
--- `column` counts from 1 after S; `nth` is the byte's place in the access, from 1; `left` counts a byte's bits down.
+-- `column` counts from 1 after S; `nth` is the byte's place in the access, from 1; `unconfirmed` says that its S came and was not confirmed;
+-- `left` counts a byte's bits down.
 pub data Phase : Type 0 where
   deaf : Phase
   locks : (column so-far : ℕ) → Locks → Phase
   head : (column so-far lock : ℕ) → Phase
   askR : (id address lock : ℕ) → Phase
   askW : (id address lock : ℕ) → (r answered : Bool) → Phase
-  byteS : (write : Bool) → (id address nth : ℕ) → Phase
+  byteS : (write : Bool) → (id address nth : ℕ) → (unconfirmed : Bool) → Phase
   reads : (id address nth left so-far : ℕ) → Phase
   writes : (id address nth left so-far : ℕ) → (echoed : Bool) → Phase
   askP : (write : Bool) → (id address nth : ℕ) → Phase
@@ -74,7 +75,7 @@ oddAnswer id address answeredR answeredW =
 abbrev pub acceptance : (id address : ℕ) → (r answeredR w answeredW : Bool) → Look
 acceptance id address r answeredR w answeredW =
     cond (Bool·beq answeredR r)
-    (cond (Bool·beq answeredW w) (go (byteS w id address 1)) (gives (event Kind.refused id address (num w)) deaf))
+    (cond (Bool·beq answeredW w) (go (byteS w id address 1 false)) (gives (event Kind.refused id address (num w)) deaf))
     (oddAnswer id address answeredR answeredW)
 
 -- absent: "answered 0 0, ID not locked".
@@ -108,11 +109,12 @@ look (head column so-far lock) m x =
     (headed (header (push so-far m)) lock)
 look (askR id address lock) m x = go (askW id address lock m x)
 look (askW id address lock r answered) m x = asked id address lock r answered m x
--- "The reader is deaf .. after a 0 at S." mute: "S = 1 answered 0; deaf".
-look (byteS write id address nth) false x = go deaf
-look (byteS write id address nth) true false = gives (event Kind.mute id address 0) deaf
-look (byteS false id address nth) true true = go (reads id address nth topBit 0)
-look (byteS true id address nth) true true = go (writes id address nth topBit 0 true)
+-- "The reader is deaf .. after a 0 at S." Request 03: "The reader lists `mute` only when the master gives up unconfirmed after a 1, in the
+-- column of that 0."
+look (byteS write id address nth unconfirmed) false x = cond unconfirmed (gives (event Kind.mute id address 0) deaf) (go deaf)
+look (byteS write id address nth unconfirmed) true false = go (byteS write id address nth true)
+look (byteS false id address nth unconfirmed) true true = go (reads id address nth topBit 0)
+look (byteS true id address nth unconfirmed) true true = go (writes id address nth topBit 0 true)
 look (reads id address nth (suc left) so-far) m x = go (reads id address nth left (push so-far x))
 look (reads id address nth zero so-far) m x =
     let word : ℕ = push so-far x in
@@ -125,7 +127,7 @@ look (writes id address nth zero so-far echoed) m x =
 -- closed: "P answered 1". odd: "P answered 0 at address 127 or the 64th byte (value 4)".
 look (askP write id address nth) m true = gives (event Kind.closed id address 0) deaf
 look (askP write id address nth) m false =
-    cond (ltb (address + 1) registerCount && ltb nth byteLimit) (go (byteS write id (address + 1) (nth + 1)))
+    cond (ltb (address + 1) registerCount && ltb nth byteLimit) (go (byteS write id (address + 1) (nth + 1) false))
     (gives (event Kind.odd id address 4) deaf)
 
 -- "A deaf reader still gives `end`."

@@ -9,17 +9,17 @@ use Rattle.protocol.specs.Rest.{Timed, Judged, judge}
 use Rattle.protocol.specs.Machine as machine
 use Rattle.protocol.specs.Division.{dataBits, topBit, word, fits, byteOf}
 use Rattle.protocol.specs.Header.{Header, wrong, access, command, header}
-use Rattle.protocol.specs.Memory.{Memory, allows, holds, stored}
+use Rattle.protocol.specs.Memory.{Memory, allows, holds, stored, delay}
 
 -- Where a slave is in a frame. `column` counts from 1 after S; `so-far` and `what` are the bits taken, and those to send, as a number;
--- `nth` is the byte's place in the access, from 1; `left` counts a byte's bits down.
+-- `nth` is the byte's place in the access, from 1; `unconfirmed` is how often its S came and was not confirmed; `left` counts a byte's bits down.
 pub data Phase : Type 0 where
   deaf : Phase
   locks : (column so-far : ℕ) → (number : Option ℕ) → Phase
   head : (column so-far : ℕ) → (number : Option ℕ) → Phase
   askR : (address : ℕ) → Phase
   askW : (address : ℕ) → (r : Bool) → Phase
-  byteS : (write : Bool) → (address nth : ℕ) → Phase
+  byteS : (write : Bool) → (address nth unconfirmed : ℕ) → Phase
   sends : (address nth left what : ℕ) → Phase
   takes : (address nth left so-far : ℕ) → Phase
   askP : (write good : Bool) → (address nth : ℕ) → Phase
@@ -76,6 +76,11 @@ called (access id address) (some i) = cond (eqb i id) (askR address) deaf
 unfoldable pub more : Memory → (write : Bool) → (address nth : ℕ) → Bool
 more k write address nth = ltb (address + 1) registerCount && allows k write (address + 1) && ltb nth byteLimit
 
+-- Byte: where a confirmed S leads. "Reading: the slave sends data and check"; "Writing: the slave echoes all twelve bits".
+abbrev pub confirmed : Memory → (write : Bool) → (address nth : ℕ) → Phase
+confirmed k false address nth = sends address nth topBit (word dataBits (holds k address))
+confirmed k true address nth = takes address nth topBit 0
+
 -- Byte, writing: "at the last check bit stores the byte if the check is right".
 abbrev pub took : Memory → (address word : ℕ) → Memory
 took k address word = cond (fits dataBits word) (stored k address (byteOf word)) k
@@ -96,11 +101,13 @@ speak k (head column so-far number) m b =
 -- otherwise it inverts W and goes deaf." R = 0, W = 1 writes.
 speak k (askR address) m b = turn (askW address m) m k
 speak k (askW address r) m b =
-    cond (not (Bool·beq r m) && allows k m address) (turn (byteS m address 1) m k) (turn deaf (not m) k)
--- Byte: "A 0 at S is answered 0 and ends the access; the slave goes deaf. The addressed slave confirms S = 1 at once with 1."
-speak k (byteS write address nth) false b = turn deaf false k
-speak k (byteS false address nth) true b = turn (sends address nth topBit (word dataBits (holds k address))) true k
-speak k (byteS true address nth) true b = turn (takes address nth topBit 0) true k
+    cond (not (Bool·beq r m) && allows k m address) (turn (byteS m address 1 0) m k) (turn deaf (not m) k)
+-- Byte: "A 0 at S is answered 0 and ends the access; the slave goes deaf." Request 03: "with S = 1 it answers 0 that many times and then
+-- 1, while the master repeats S; a 0 from the master ends the access."
+speak k (byteS write address nth unconfirmed) false b = turn deaf false k
+speak k (byteS write address nth unconfirmed) true b =
+    cond (ltb unconfirmed (delay k write nth)) (turn (byteS write address nth (unconfirmed + 1)) false k)
+    (turn (confirmed k write address nth) true k)
 -- Byte: "Reading: the slave sends data and check; the master's twelve bits are not judged".
 speak k (sends address nth (suc left) what) m b = turn (sends address nth left what) (bit (suc left) what) k
 speak k (sends address nth zero what) m b = turn (askP false true address nth) (bit zero what) k
@@ -111,7 +118,7 @@ speak k (takes address nth zero so-far) m b =
 -- P: "The master's bit is not judged." The slave answers 0 and goes on at address + 1, "otherwise 1, and it goes deaf. House rule:
 -- after a written byte with a wrong check it also answers 1."
 speak k (askP write good address nth) m b =
-    cond (good && more k write address nth) (turn (byteS write (address + 1) (nth + 1)) false k) (turn deaf true k)
+    cond (good && more k write address nth) (turn (byteS write (address + 1) (nth + 1) 0) false k) (turn deaf true k)
 
 -- A slave: its memory, and where it is.
 pub record Slave : Type 0 where

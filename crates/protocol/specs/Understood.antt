@@ -1,7 +1,8 @@
 -- A built row understood: what the reader's list shows of it, where the chain holds the ID and allows the access at every address asked
--- for. S stands in column 14 (Building's picture): IDL8 answers in column 23, the header ends in column 29, W stands in column 31.
+-- for, and the row was built with that slave's waiting number. S stands in column 14 (Building's picture): IDL8 answers in column 23, the
+-- header ends in column 29, W stands in column 31.
 use mathlib.Core.Path.{_≡_}
-use mathlib.Core.Bool.{Bool, true, cond}
+use mathlib.Core.Bool.{Bool, true, false, cond}
 use mathlib.Core.List.{List, [], _∷_}
 use mathlib.Core.Option.{some}
 use Prim.Native.Nat.{ℕ, zero, suc, _+_, _*_, _≤_, _<_, min}
@@ -42,18 +43,29 @@ lockShown ks = inFrame (restZeros + lockLast) (event Kind.lock 0 0 (min (idCount
 abbrev pub commandShown : (ids cmd : ℕ) → Entry
 commandShown ids cmd = inFrame (restZeros + headerColumns) (event Kind.command cmd 0 ids)
 
--- The column of S of byte i: 32 for byte 0, and fourteen more for each byte before it.
-abbrev pub byteColumn : ℕ → ℕ
-byteColumn i = restZeros + 1 + headerColumns + 2 + (topBit + 3) * i
+-- Request 03: "Every byte of a read waits; in a write the first byte does not, later ones do": how many of the first n wait.
+abbrev pub delayed : (write : Bool) → ℕ → ℕ
+delayed false n = n
+delayed true zero = 0
+delayed true (suc n) = n
+
+-- The column of the first S of byte i: 32 for byte 0, fourteen more for each byte before it, and those in which one of them waited ..
+abbrev pub askedColumn : (wait : ℕ) → (write : Bool) → ℕ → ℕ
+askedColumn wait write i = restZeros + 1 + headerColumns + 2 + (topBit + 3) * i + wait * delayed write i
+
+-- .. and that of the S which is confirmed.
+abbrev pub byteColumn : (wait : ℕ) → (write : Bool) → ℕ → ℕ
+byteColumn wait write i = restZeros + 1 + headerColumns + 2 + (topBit + 3) * i + wait * delayed write (suc i)
 
 -- read, written: "last check column"; the address is "that of the byte".
-abbrev pub byteShown : Kind → (id address i value : ℕ) → Entry
-byteShown kind id address i value = inFrame (byteColumn i + (topBit + 1)) (event kind id (address + i) value)
+abbrev pub byteShown : (wait : ℕ) → (write : Bool) → (id address i value : ℕ) → Entry
+byteShown wait write id address i value =
+    inFrame (byteColumn wait write i + (topBit + 1)) (event (cond write Kind.written Kind.read) id (address + i) value)
 
 -- Byte i and those after it, an entry each.
-unfoldable pub bytesShown : Kind → (id address i : ℕ) → List ℕ → List Entry
-bytesShown kind id address i [] = []
-bytesShown kind id address i (v ∷ vs) = byteShown kind id address i v ∷ bytesShown kind id address (i + 1) vs
+unfoldable pub bytesShown : (wait : ℕ) → (write : Bool) → (id address i : ℕ) → List ℕ → List Entry
+bytesShown wait write id address i [] = []
+bytesShown wait write id address i (v ∷ vs) = byteShown wait write id address i v ∷ bytesShown wait write id address (i + 1) vs
 
 -- The bytes that stand at so many addresses.
 unfoldable pub standing : Memory → (address count : ℕ) → List ℕ
@@ -63,4 +75,5 @@ standing k address (suc count) = holds k address ∷ standing k (address + 1) co
 -- closed: "P answered 1", of the last byte, byte i: exactly if the slave would not go on there.
 abbrev pub closing : Memory → (write : Bool) → (id address i : ℕ) → List Entry
 closing k write id address i =
-    cond (more k write (address + i) (i + 1)) [] (inFrame (byteColumn i + (topBit + 2)) (event Kind.closed id (address + i) 0) ∷ [])
+    cond (more k write (address + i) (i + 1)) []
+    (inFrame (byteColumn (k .wait) write i + (topBit + 2)) (event Kind.closed id (address + i) 0) ∷ [])

@@ -45,7 +45,7 @@ Held (locks column so-far l) = (column ≤ lockLast) × Counted l
 Held (head column so-far lock) = Unit {0}
 Held (askR id address lock) = Byte id × Byte address
 Held (askW id address lock r answered) = Byte id × Byte address
-Held (byteS write id address nth) = Byte id × Byte address
+Held (byteS write id address nth unconfirmed) = Byte id × Byte address
 Held (reads id address nth left so-far) = Byte id × Byte address
 Held (writes id address nth left so-far echoed) = Byte id × Byte address
 Held (askP write id address nth) = Byte id × Byte address
@@ -128,10 +128,11 @@ good-look (head column so-far lock) m x h =
     either Good (ltb column headerColumns) (tt, tt) (good-headed _ lock (said-header (push so-far m)))
 good-look (askR id address lock) m x h = (h, tt)
 good-look (askW id address lock r answered) m x h = good-asked id address (h .0) (h .1) lock r answered m x
-good-look (byteS write id address nth) false x h = (tt, tt)
-good-look (byteS write id address nth) true false h = (tt, good-event id address (h .0) (h .1) Kind.mute 0 (omega arith))
-good-look (byteS false id address nth) true true h = (h, tt)
-good-look (byteS true id address nth) true true h = (h, tt)
+good-look (byteS write id address nth unconfirmed) false x h =
+    either Good unconfirmed (tt, good-event id address (h .0) (h .1) Kind.mute 0 (omega arith)) (tt, tt)
+good-look (byteS write id address nth unconfirmed) true false h = (h, tt)
+good-look (byteS false id address nth unconfirmed) true true h = (h, tt)
+good-look (byteS true id address nth unconfirmed) true true h = (h, tt)
 good-look (reads id address nth (suc left) so-far) m x h = (h, tt)
 good-look (reads id address nth zero so-far) m x h = (h, good-event id address (h .0) (h .1) (readKind (push so-far x)) _ (byte-of (push so-far x)))
 good-look (writes id address nth (suc left) so-far echoed) m x h = (h, tt)

@@ -9,7 +9,7 @@ use mir.Val.{boolByte}
 use Rattle.protocol.specs.Limits.{registerCount, byteLimit}
 use Rattle.protocol.specs.Bits.{num, bitOf, push}
 use Rattle.protocol.specs.Division.{dataBits, checkWidth, topBit, fits, byteOf}
-use Rattle.protocol.specs.Reader.{deaf, askR, askW, byteS, reads, writes, askP, asked, look}
+use Rattle.protocol.specs.Reader.{deaf, askR, askW, byteS, reads, writes, askP, Look, asked, look}
 use Rattle.reader.specs.Code.{said, nothing, seenBy, seen}
 
 -- A bit as a number and back.
@@ -41,7 +41,7 @@ module _ (i a : ℕ) (m x : Bool) where
 
     module _ (differ : Bool·beq r m ≡ false) (locked : i < l) where
       pub w-accepted : Bool·beq y r ≡ true → Bool·beq x m ≡ true
-          → (k : ℕ) → k ≡ num m → seenBy (byteS (bitOf k) i a 1) nothing ≡ seen (look (askW i a l r y) m x)
+          → (k : ℕ) → k ≡ num m → seenBy (byteS (bitOf k) i a 1 false) nothing ≡ seen (look (askW i a l r y) m x)
       unfolding look asked
       w-accepted e h k q = rw (differ, lt-ltb i l locked, e, h, q, bit-num m)
 
@@ -55,23 +55,28 @@ module _ (i a : ℕ) (m x : Bool) where
       unfolding look asked
       w-odd e v q = rw (differ, lt-ltb i l locked, e, q)
 
-  -- At S.
-  module _ (k n : ℕ) where
-    pub s-zero : m ≡ false → seenBy deaf nothing ≡ seen (look (byteS (bitOf k) i a n) m x)
-    unfolding look
-    s-zero e = rw e
+  -- At S: k is 1 in a write, and j where a 1 came before and was not confirmed.
+  module _ (k n j : ℕ) where
+    abbrev at-S : Look
+    at-S = look (byteS (bitOf k) i a n (bitOf j)) m x
 
-    pub s-mute : m ≡ true → x ≡ false → seenBy deaf (said 9 i a 0) ≡ seen (look (byteS (bitOf k) i a n) m x)
+    pub s-zero : m ≡ false → (j ≡ 1 → ⊥) → seenBy deaf nothing ≡ seen at-S
     unfolding look
-    s-mute e h = rw (e, h)
+    s-zero e q = rw (e, ne-eqb j 1 q)
 
-    pub s-writes : m ≡ true → x ≡ true → k ≡ 1
-        → seenBy (writes i a n topBit 0 true) nothing ≡ seen (look (byteS (bitOf k) i a n) m x)
+    pub s-mute : m ≡ false → j ≡ 1 → seenBy deaf (said 9 i a 0) ≡ seen at-S
+    unfolding look
+    s-mute e q = rw (e, eq-eqb j 1 q)
+
+    pub s-waits : m ≡ true → x ≡ false → seenBy (byteS (bitOf k) i a n true) nothing ≡ seen at-S
+    unfolding look
+    s-waits e h = rw (e, h)
+
+    pub s-writes : m ≡ true → x ≡ true → k ≡ 1 → seenBy (writes i a n topBit 0 true) nothing ≡ seen at-S
     unfolding look
     s-writes e h q = rw (e, h, eq-eqb k 1 q)
 
-    pub s-reads : m ≡ true → x ≡ true → (k ≡ 1 → ⊥)
-        → seenBy (reads i a n topBit 0) nothing ≡ seen (look (byteS (bitOf k) i a n) m x)
+    pub s-reads : m ≡ true → x ≡ true → (k ≡ 1 → ⊥) → seenBy (reads i a n topBit 0) nothing ≡ seen at-S
     unfolding look
     s-reads e h q = rw (e, h, ne-eqb k 1 q)
 
@@ -122,7 +127,7 @@ module _ (i a : ℕ) (m x : Bool) where
     p-closed e = rw e
 
     pub p-more : x ≡ false → a < registerCount - 1 → n < byteLimit
-        → seenBy (byteS v i ((a + 1) % registerCount) (n + 1)) nothing ≡ seen (look (askP v i a n) m x)
+        → seenBy (byteS v i ((a + 1) % registerCount) (n + 1) false) nothing ≡ seen (look (askP v i a n) m x)
     unfolding look
     p-more e h k =
         let b : (a + 1) % registerCount ≡ a + 1 = omega arith in

@@ -56,6 +56,7 @@ fn accepted(zeros: u64, body: Body, m: bool, x: bool) -> Stepped
         if x == m {
             let mut n = body;
             n.asked = w;
+            n.answered = 0;
             n.count = 1;
             go(Phase::ByteS, zeros, n)
         } else {

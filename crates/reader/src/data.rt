@@ -17,7 +17,7 @@ use machine::TOP_BIT;
 // odd: "P answered 0 at address 127".
 const LAST_ADDRESS: u64 = REGISTERS - 1;
 
-// mute: "S = 1 answered 0; deaf".
+// Request 03: "The reader lists `mute` only when the master gives up unconfirmed after a 1, in the column of that 0."
 pub fn byte_s(zeros: u64, body: Body, m: bool, x: bool) -> Stepped
     ensures { λ r. ⌜ Meets Phase.ByteS zeros body m x r ⌝ }
 {
@@ -35,8 +35,12 @@ pub fn byte_s(zeros: u64, body: Body, m: bool, x: bool) -> Stepped
                 go(Phase::Reads, zeros, n)
             }
         } else {
-            gives(Phase::Deaf, zeros, n, kinds::MUTE, id, address, 0)
+            let mut waits = body;
+            waits.answered = 1;
+            go(Phase::ByteS, zeros, waits)
         }
+    } else if body.answered == 1 {
+        gives(Phase::Deaf, zeros, n, kinds::MUTE, id, address, 0)
     } else {
         go(Phase::Deaf, zeros, n)
     }
@@ -107,6 +111,7 @@ pub fn ask_p(zeros: u64, body: Body, m: bool, x: bool) -> Stepped
             let mut n = body;
             n.address = address + 1;
             n.count = body.count + 1;
+            n.answered = 0;
             go(Phase::ByteS, zeros, n)
         } else {
             gives(Phase::Deaf, zeros, body, kinds::ODD, id, address, 4)

@@ -56,7 +56,7 @@ pub struct Body {
     pub address: u64,
     // The master's R; from W on, W.
     pub asked: u64,
-    // The answer to R; in a written byte, whether all bits so far were echoed.
+    // The answer to R; at a byte's S, whether a 1 came before it unconfirmed; in a written byte, whether all bits so far were echoed.
     pub answered: u64,
 }
 

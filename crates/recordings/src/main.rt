@@ -1,5 +1,5 @@
 // Reads small recordings, each kind of entry in at least two of them, and prints their lists: kind, column, start, id, address, value. A
-// recording is a built request of 64 columns and one slave's answers to it, with a bit or two of either row flipped.
+// recording is a built request of 64 columns and one slave's answers to it, with a bit or two of either row flipped, or a slave that waits.
 //
 //   column  0 .. 13  14  15 .. 23      24 .. 29   30  31  32  33 .. 40  41 .. 44  45
 //           zeros    S   header, IDL   header     R   W   S   data      check     P
@@ -16,6 +16,7 @@ fn main() {
     locks_and_headers();
     requests();
     bytes();
+    waits();
 }
 
 fn locks_and_headers() {
@@ -162,16 +163,34 @@ fn bytes() {
     );
 }
 
+fn waits() {
+    waited(b"a memory that waits three columns\n", asking(3), 3);
+    waited(b"S repeated once, and given up\n", asking(1), 3);
+    waited(b"S repeated twice too often\n", asking(5), 3);
+    waited(
+        b"the first byte of a write does not wait\n",
+        writing(0, 0x44, 0x5b),
+        3,
+    );
+}
+
 fn reading(id: u8, address: u8) -> [u8; 64] {
     let mut row = [0u8; 64];
-    build::build_read(id, address, 1, &mut row);
+    build::build_read(id, address, 1, 0, &mut row);
+    row
+}
+
+// A read of ID 0, address 44, by a master that repeats S so often.
+fn asking(wait: u8) -> [u8; 64] {
+    let mut row = [0u8; 64];
+    build::build_read(0, 0x44, 1, wait, &mut row);
     row
 }
 
 fn writing(id: u8, address: u8, value: u8) -> [u8; 64] {
     let mut row = [0u8; 64];
     let bytes = [value];
-    build::build_write(id, address, &bytes, &mut row);
+    build::build_write(id, address, &bytes, 0, &mut row);
     row
 }
 
@@ -181,17 +200,28 @@ fn commanding(ids: u8, cmd: u8) -> [u8; 64] {
     row
 }
 
-// One slave with the same right everywhere, its register 44 holding 5A and the rest 0; one bit of the master row flipped before the run,
-// one bit of the answers after it.
+// A slave that does not wait, with the same right everywhere.
 fn recorded(what: &[u8], row: [u8; 64], right: u8, sent: usize, answered: usize) {
     io::write_all(STDOUT_FILENO, what);
+    shown(row, right, 0, sent, answered);
+}
+
+// A slave with all rights and a waiting number.
+fn waited(what: &[u8], row: [u8; 64], wait: u8) {
+    io::write_all(STDOUT_FILENO, what);
+    shown(row, 3, wait, NONE, NONE);
+}
+
+// One slave, its register 44 holding 5A and the rest 0; one bit of the master row flipped before the run, one bit of the answers after it.
+fn shown(row: [u8; 64], right: u8, wait: u8, sent: usize, answered: usize) {
     let mut cdm = row;
     flip(&mut cdm, sent);
     let mut registers = [0u8; 128];
     registers[0x44] = 0x5a;
     let rights = [right; 128];
     let mut cds = [0u8; 64];
-    run::run(1, &rights, &mut registers, &cdm, &mut cds);
+    let waits = [wait];
+    run::run(1, &rights, &waits, &mut registers, &cdm, &mut cds);
     flip(&mut cds, answered);
     let mut list = [0u8; ENTRY_BYTES * 64];
     match read::read(&cdm, &cds, 0, &mut list) {

@@ -17,15 +17,16 @@ use Rattle.run.specs.Run.{refusals, Ran}
 use Rattle.run.specs.Parts.{Holds, Rowed}
 
 -- What no refusal says of the lent bytes.
-module _ (slaves : ℕ) (registers rights cdm cds : List ℕ)
-    (e : first (refusals slaves (length registers) rights cdm (length cds)) ≡ none) where
-  pub held : Holds slaves registers rights
+module _ (slaves : ℕ) (registers rights waits cdm cds : List ℕ)
+    (e : first (refusals slaves (length registers) rights (length waits) cdm (length cds)) ≡ none) where
+  pub held : Holds slaves registers rights waits
   unfolding refusals
   held =
       record {
         few = ltb-false _ _ (no 1 _ e);
         all-registers = eqb-true _ _ (not-false _ (no 2 _ e));
         all-rights = eqb-true _ _ (not-false _ (no 3 _ e));
+        all-waits = eqb-true _ _ (not-false _ (no 18 _ e));
       }
 
   pub short-row : length cdm ≤ columnLimit
@@ -40,14 +41,14 @@ module _ (slaves : ℕ) (registers rights cdm cds : List ℕ)
   unfolding refusals wrongRow rowRules
   master-bits = not-false _ (no 7 _ e)
 
-module _ (slaves : ℕ) (rights registers cdm cds : List ℕ) where
-  pub ran-refused : (why : ℕ) → given why ≡ first (refusals slaves (length registers) rights cdm (length cds)) → (why ≡ 0 → ⊥)
-      → Ran slaves rights registers cdm cds (Refused why Alone) registers cds
+module _ (slaves : ℕ) (rights waits registers cdm cds : List ℕ) where
+  pub ran-refused : (why : ℕ) → given why ≡ first (refusals slaves (length registers) rights (length waits) cdm (length cds)) → (why ≡ 0 → ⊥)
+      → Ran slaves rights waits registers cdm cds (Refused why Alone) registers cds
   ran-refused why e h = record { ends = ended-given _ _ _ why e h }
 
-  pub ran-made : (registers′ cds′ : List ℕ) → first (refusals slaves (length registers) rights cdm (length cds)) ≡ none
-      → Rowed slaves rights registers cdm registers′ cds′ → length registers′ ≡ length registers → length cds′ ≡ length cds
-      → Ran slaves rights registers cdm cds (Made (length cdm)) registers′ cds′
+  pub ran-made : (registers′ cds′ : List ℕ) → first (refusals slaves (length registers) rights (length waits) cdm (length cds)) ≡ none
+      → Rowed slaves rights waits registers cdm registers′ cds′ → length registers′ ≡ length registers → length cds′ ≡ length cds
+      → Ran slaves rights waits registers cdm cds (Made (length cdm)) registers′ cds′
   ran-made registers′ cds′ e r same same′ =
       let in-registers = r .registers-after ∙ laid-whole _ registers (ap length (sym (r .registers-after)) ∙ same) in
       let in-row = r .row ∙ laid-whole _ cds (ap length (sym (r .row)) ∙ same′) in

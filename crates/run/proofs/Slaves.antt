@@ -9,7 +9,7 @@ use mir.Val.{boolByte}
 use lib.ListN.{length, take, drop, getD, set, replicate, replicate-append-replicate, drop-of-length-le}
 use lib.Seq.{drop-cons, take-all, take-suc-set, drop-set-lt}
 use Rattle.protocol.specs.Bits.{num, bitOf, rowOf}
-use Rattle.protocol.specs.Memory.{stored}
+use Rattle.protocol.specs.Memory.{Memory, stored}
 use Rattle.protocol.specs.Slave as protocol
 use Rattle.protocol.proofs.Dress.{stepTo}
 use Rattle.slave.specs.Code.{stateOf, addressOf, SeenIn, Steps}
@@ -23,16 +23,16 @@ bool-num true = refl
 bool-num false = refl
 
 -- The step of the code is a step over the slave's own registers and rights.
-pub own-step : (registers rights : List ℕ) (s : Slave) (p : ℕ) (m b : Bool) (r : Turn) → p ≡ addressOf s
-    → Steps s (record { master = m; far = b; right = getD rights p 0; byte = getD registers p 0 }) r
-    → protocol.step (protocol.slave (memoryBy registers rights) (stateOf s)) m b
-    ≡ stepTo (memoryBy (set registers p (r .byte)) rights) (stateOf (r .next)) (r .sent)
+pub own-step : (registers rights : List ℕ) (wait : ℕ) (s : Slave) (p : ℕ) (m b : Bool) (r : Turn) → p ≡ addressOf s
+    → Steps s (record { master = m; far = b; right = getD rights p 0; byte = getD registers p 0; wait = wait }) r
+    → protocol.step (protocol.slave (memoryBy registers rights wait) (stateOf s)) m b
+    ≡ stepTo (memoryBy (set registers p (r .byte)) rights wait) (stateOf (r .next)) (r .sent)
 unfolding stored
-own-step registers rights s p m b r here steps =
-    let seen : Seen = record { master = m; far = b; right = getD rights p 0; byte = getD registers p 0 } in
-    let there : SeenIn (memoryBy registers rights) p seen = record { right-there = refl; byte-there = refl } in
-    rw here
-    (steps .over (memoryBy registers rights) (subst (λ (q : ℕ). SeenIn (memoryBy registers rights) q seen) here there))
+own-step registers rights wait s p m b r here steps =
+    let k : Memory = memoryBy registers rights wait in
+    let seen : Seen = record { master = m; far = b; right = getD rights p 0; byte = getD registers p 0; wait = wait } in
+    let there : SeenIn k p seen = record { right-there = refl; byte-there = refl; wait-there = refl } in
+    rw here (steps .over k (subst (λ (q : ℕ). SeenIn k q seen) here there))
 
 -- A column: what is sent goes over to what was sent.
 module _ (s : protocol.Slave) (t : protocol.Step) (cdm cds : List ℕ) (i : ℕ) (small : i < length cdm) (room : i < length cds)
@@ -67,14 +67,14 @@ module _ (s : protocol.Slave) (t : protocol.Step) (cdm cds : List ℕ) (i : ℕ)
       (ap (λ (r : protocol.Step). afterBy (protocol.slaveOf r) (rowOf (drop (suc i) cdm)) (rowOf (drop (suc i) cds))) stepped)
 
 -- Past the last column.
-pub passed : (rights registers cdm cds registers′ cds′ : List ℕ) (s : Slave) (i : ℕ) → length cdm ≤ i → length cds′ ≤ i
-    → take i cds′ ++ map num (sentBy (protocol.slave (memoryBy registers′ rights) (stateOf s)) (rowOf (drop i cdm)) (rowOf (drop i cds′)))
-    ≡ map num (sentBy (newBy registers rights) (rowOf cdm) (rowOf cds))
-    → afterBy (protocol.slave (memoryBy registers′ rights) (stateOf s)) (rowOf (drop i cdm)) (rowOf (drop i cds′))
-    ≡ afterBy (newBy registers rights) (rowOf cdm) (rowOf cds)
-    → Passed rights registers cdm cds registers′ cds′
+pub passed : (rights : List ℕ) (wait : ℕ) (registers cdm cds registers′ cds′ : List ℕ) (s : Slave) (i : ℕ) → length cdm ≤ i → length cds′ ≤ i
+    → take i cds′ ++ map num (sentBy (protocol.slave (memoryBy registers′ rights wait) (stateOf s)) (rowOf (drop i cdm)) (rowOf (drop i cds′)))
+    ≡ map num (sentBy (newBy registers rights wait) (rowOf cdm) (rowOf cds))
+    → afterBy (protocol.slave (memoryBy registers′ rights wait) (stateOf s)) (rowOf (drop i cdm)) (rowOf (drop i cds′))
+    ≡ afterBy (newBy registers rights wait) (rowOf cdm) (rowOf cds)
+    → Passed rights wait registers cdm cds registers′ cds′
 unfolding rowOf sentBy afterBy
-passed rights registers cdm cds registers′ cds′ s i past full a e =
+passed rights wait registers cdm cds registers′ cds′ s i past full a e =
     let ends : drop i cdm ≡ [] = drop-of-length-le cdm past in
     record {
       sent = sym (append-nil cds′) ∙ rw (ends, take-all i cds′ full) at a;

@@ -25,26 +25,27 @@ afterBy s [] bs = s
 afterBy s (m ∷ ms) [] = s
 afterBy s (m ∷ ms) (b ∷ bs) = afterBy (protocol.slaveOf (protocol.step s m b)) ms bs
 
--- A slave's memory, of its registers and rights ..
-abbrev pub memoryBy : (registers rights : List ℕ) → Memory
-memoryBy registers rights = record { registers = registers; rights = rights }
+-- A slave's memory, of its registers, its rights and its waiting number ..
+abbrev pub memoryBy : (registers rights : List ℕ) → (wait : ℕ) → Memory
+memoryBy registers rights wait = record { registers = registers; rights = rights; wait = wait }
 
 -- .. and that slave at power-on.
-abbrev pub newBy : (registers rights : List ℕ) → protocol.Slave
-newBy registers rights = protocol.slave (memoryBy registers rights) powerOn
+abbrev pub newBy : (registers rights : List ℕ) → (wait : ℕ) → protocol.Slave
+newBy registers rights wait = protocol.slave (memoryBy registers rights wait) powerOn
 
--- The lent registers and rights hold so many slaves.
-pub record Holds (slaves : ℕ) (registers rights : List ℕ) : Type 0 where
+-- The lent registers, rights and waits hold so many slaves.
+pub record Holds (slaves : ℕ) (registers rights waits : List ℕ) : Type 0 where
   pub few : slaves ≤ slaveLimit
   pub all-registers : length registers ≡ registerCount * slaves
   pub all-rights : length rights ≡ registerCount * slaves
+  pub all-waits : length waits ≡ slaves
 
 -- One slave over a row: in `cds` its far neighbour's bits, and its own afterwards.
-pub record Passed (rights registers cdm cds registers′ cds′ : List ℕ) : Type 0 where
-  pub sent : cds′ ≡ map num (sentBy (newBy registers rights) (rowOf cdm) (rowOf cds))
-  pub memory-after : memoryBy registers′ rights ≡ afterBy (newBy registers rights) (rowOf cdm) (rowOf cds) .memory
+pub record Passed (rights : List ℕ) (wait : ℕ) (registers cdm cds registers′ cds′ : List ℕ) : Type 0 where
+  pub sent : cds′ ≡ map num (sentBy (newBy registers rights wait) (rowOf cdm) (rowOf cds))
+  pub memory-after : memoryBy registers′ rights wait ≡ afterBy (newBy registers rights wait) (rowOf cdm) (rowOf cds) .memory
 
 -- A whole row from power-on.
-pub record Rowed (count : ℕ) (rights registers cdm registers′ cds′ : List ℕ) : Type 0 where
-  pub row : cds′ ≡ map num (answersFrom (memoriesOf count registers rights) (rowOf cdm))
-  pub registers-after : registers′ ≡ registersOf (memoriesAfter (memoriesOf count registers rights) (rowOf cdm))
+pub record Rowed (count : ℕ) (rights waits registers cdm registers′ cds′ : List ℕ) : Type 0 where
+  pub row : cds′ ≡ map num (answersFrom (memoriesOf count registers rights waits) (rowOf cdm))
+  pub registers-after : registers′ ≡ registersOf (memoriesAfter (memoriesOf count registers rights waits) (rowOf cdm))

@@ -1,5 +1,5 @@
-// The job run: a chain of 0 to 16 slaves over a master row. It returns Made with the number of columns, or Refused with 1 to 7 and
-// every lent byte as it was.
+// The job run: a chain of 0 to 16 slaves over a master row. It returns Made with the number of columns, or Refused with 1 to 7
+// or 18 and every lent byte as it was.
 ghost use mathlib.Core.Path.{_≡_};
 ghost use lib.ListN.{length, replicate};
 ghost use Rattle.protocol.specs.Limits.{registerCount};
@@ -20,28 +20,36 @@ const REGISTERS: usize = 128;
 // "0 none, 1 read, 2 write, 3 both".
 const RIGHTS: u8 = 3;
 
-// Runs the chain from power-on: `registers` and `rights` hold 128 bytes a slave, far slave first, `cdm` the master row, and `cds`
-// takes the answers.
+// Runs the chain from power-on: `registers` and `rights` hold 128 bytes a slave and `waits` its waiting number, far slave first, `cdm`
+// the master row, and `cds` takes the answers.
 pub fn run(
     slaves: usize,
     rights: &[u8],
+    waits: &[u8],
     registers: &mut [u8],
     cdm: &[u8],
     cds: &mut [u8],
 ) -> Outcome
-    ensures { λ r. ⌜ Ran slaves (now (rights .entry)) (now (registers .entry)) (now (cdm .entry)) (now (cds .entry)) r (now (registers .exit)) (now (cds .exit)) ⌝ }
+    ensures { λ r. ⌜ Ran slaves (now (rights .entry)) (now (waits .entry)) (now (registers .entry)) (now (cdm .entry)) (now (cds .entry)) r (now (registers .exit)) (now (cds .exit)) ⌝ }
 {
-    let why = refusal(slaves, registers.len(), rights, cdm, cds.len());
+    let why = refusal(slaves, registers.len(), rights, waits.len(), cdm, cds.len());
     if why != 0 {
         return Outcome::Refused(why, Detail::Alone);
     }
-    answer_row(slaves, rights, registers, cdm, cds);
+    answer_row(slaves, rights, waits, registers, cdm, cds);
     Outcome::Made(cdm.len())
 }
 
-// 1 to 7, or 0 where none of them is given.
-fn refusal(slaves: usize, registers: usize, rights: &[u8], cdm: &[u8], columns: usize) -> u8
-    ensures { λ r. ⌜ given r ≡ first (refusals slaves registers (now (rights .entry)) (now (cdm .entry)) columns) ⌝ }
+// 1 to 7 or 18, or 0 where none of them is given.
+fn refusal(
+    slaves: usize,
+    registers: usize,
+    rights: &[u8],
+    waits: usize,
+    cdm: &[u8],
+    columns: usize,
+) -> u8
+    ensures { λ r. ⌜ given r ≡ first (refusals slaves registers (now (rights .entry)) waits (now (cdm .entry)) columns) ⌝ }
 {
     if SLAVES < slaves {
         1
@@ -50,7 +58,11 @@ fn refusal(slaves: usize, registers: usize, rights: &[u8], cdm: &[u8], columns: 
     } else if rights.len() != REGISTERS * slaves {
         3
     } else if job::none_above(rights, RIGHTS) {
-        job::wrong_row(cdm, columns)
+        if waits != slaves {
+            18
+        } else {
+            job::wrong_row(cdm, columns)
+        }
     } else {
         4
     }
@@ -58,16 +70,29 @@ fn refusal(slaves: usize, registers: usize, rights: &[u8], cdm: &[u8], columns: 
 
 // The chain from power-on, a slave a turn: "the bit enters at the far end as 0 and goes slave by slave to the master" (01, Chain). What
 // a slave sends hangs on the slaves before it alone, so each goes over the whole row, and no array of slaves is carried.
-fn answer_row(slaves: usize, rights: &[u8], registers: &mut [u8], cdm: &[u8], cds: &mut [u8])
-    requires { ⌜ (Holds slaves (now registers) (now rights)) × (length (now cds) ≡ length (now cdm)) ⌝ }
-    ensures { λ r. ⌜ Rowed slaves (now (rights .entry)) (now (registers .entry)) (now (cdm .entry)) (now (registers .exit)) (now (cds .exit)) ⌝ }
+fn answer_row(
+    slaves: usize,
+    rights: &[u8],
+    waits: &[u8],
+    registers: &mut [u8],
+    cdm: &[u8],
+    cds: &mut [u8],
+)
+    requires { ⌜ (Holds slaves (now registers) (now rights) (now waits)) × (length (now cds) ≡ length (now cdm)) ⌝ }
+    ensures { λ r. ⌜ Rowed slaves (now (rights .entry)) (now (waits .entry)) (now (registers .entry)) (now (cdm .entry)) (now (registers .exit)) (now (cds .exit)) ⌝ }
 {
     clear(cds);
     let mut i = 0;
     while i < slaves {
         let at = REGISTERS * i;
         let end = at + REGISTERS;
-        pass_slave(&rights[at..end], &mut registers[at..end], cdm, cds);
+        pass_slave(
+            &rights[at..end],
+            waits[i],
+            &mut registers[at..end],
+            cdm,
+            cds,
+        );
         i += 1;
     }
 }
@@ -84,9 +109,9 @@ fn clear(cds: &mut [u8])
 }
 
 // One slave over the whole row: `cds` holds its far neighbour's bits, and its own afterwards.
-fn pass_slave(rights: &[u8], registers: &mut [u8], cdm: &[u8], cds: &mut [u8])
+fn pass_slave(rights: &[u8], wait: u8, registers: &mut [u8], cdm: &[u8], cds: &mut [u8])
     requires { ⌜ (length (now registers) ≡ registerCount) × (length (now rights) ≡ registerCount) × (length (now cds) ≡ length (now cdm)) ⌝ }
-    ensures { λ r. ⌜ Passed (now (rights .entry)) (now (registers .entry)) (now (cdm .entry)) (now (cds .entry)) (now (registers .exit)) (now (cds .exit)) ⌝ }
+    ensures { λ r. ⌜ Passed (now (rights .entry)) wait (now (registers .entry)) (now (cdm .entry)) (now (cds .entry)) (now (registers .exit)) (now (cds .exit)) ⌝ }
 {
     let mut slave = Slave::new();
     let mut i = 0;
@@ -104,6 +129,7 @@ fn pass_slave(rights: &[u8], registers: &mut [u8], cdm: &[u8], cds: &mut [u8])
                 far: far,
                 right: rights[at],
                 byte: registers[at],
+                wait: wait,
             };
             let turn = slave.step(seen);
             registers[at] = turn.byte;

@@ -1,5 +1,5 @@
 -- The columns of a register access, a law for each branch of the code, in the branch's own words. Assumes nothing.
-use mathlib.Core.Path.{_≡_, refl, sym, _∙_}
+use mathlib.Core.Path.{_≡_, refl, sym, ap, _∙_}
 use mathlib.Core.Bool.{Bool, true, false, not, _&&_, Bool·beq, and-true, and-false, false≢true}
 use Prim.Native.Nat.{ℕ, zero, suc, _+_, _-_, _/_, _%_, _^_, _≤_, _<_}
 use native.Mathlib.Omega.{arith}
@@ -8,7 +8,7 @@ use lib.Dec.{ltb, eqb}
 use Rattle.protocol.specs.Limits.{registerCount, byteLimit}
 use Rattle.protocol.specs.Bits.{num, bit, push}
 use Rattle.protocol.specs.Division.{dataBits, checkWidth, topBit, word, fits, byteOf}
-use Rattle.protocol.specs.Memory.{Memory, allows, holds, stored}
+use Rattle.protocol.specs.Memory.{Memory, allows, holds, stored, delayBy, delay}
 use Rattle.protocol.specs.Slave as protocol
 use Rattle.slave.specs.Code.{addressBy, counts, before, nextAddress, SeenIn, goesOn}
 use Rattle.slave.specs.declared.Body.{Body}
@@ -24,6 +24,11 @@ seen-holds : (k : Memory) (address : ℕ) (seen : Seen) → SeenIn k address see
 unfolding holds
 seen-holds k address seen s = s .byte-there
 
+seen-delay : (k : Memory) (write : Bool) (address nth : ℕ) (seen : Seen) → SeenIn k address seen
+    → delay k write nth ≡ delayBy (seen .wait) write nth
+unfolding delay
+seen-delay k write address nth seen s = ap (λ (w : ℕ). delayBy w write nth) (s .wait-there)
+
 -- W: R and W alike; the right allows the access; it does not.
 pub ask-alike : (k : Memory) (address : ℕ) (r m b : Bool) → Bool·beq r m ≡ true
     → protocol.speak k (protocol.askW address r) m b ≡ protocol.turn protocol.deaf (not m) k
@@ -33,7 +38,7 @@ ask-alike k address r m b h = rw h
 module _ (k : Memory) (address : ℕ) (r b : Bool) (seen : Seen) where
   pub ask-allowed : {f : Bool} → SeenIn k address seen → Bool·beq r (seen .master) ≡ false
       → f ≡ bit (num (seen .master)) (seen .right) → f ≡ true
-      → protocol.speak k (protocol.askW address r) (seen .master) b ≡ protocol.turn (protocol.byteS (seen .master) address 1) (seen .master) k
+      → protocol.speak k (protocol.askW address r) (seen .master) b ≡ protocol.turn (protocol.byteS (seen .master) address 1 0) (seen .master) k
   unfolding protocol.speak
   ask-allowed s h e t = rw (h, seen-allows k (seen .master) address seen s, ← e, t)
 
@@ -43,21 +48,31 @@ module _ (k : Memory) (address : ℕ) (r b : Bool) (seen : Seen) where
   unfolding protocol.speak
   ask-refused s h e t = rw (h, seen-allows k (seen .master) address seen s, ← e, t)
 
--- S: a 0; a byte to write; a byte to read.
-module _ (k : Memory) (address nth : ℕ) (write b : Bool) {m : Bool} where
-  pub byte-ends : m ≡ false → protocol.speak k (protocol.byteS write address nth) m b ≡ protocol.turn protocol.deaf false k
+-- S: a 0; not confirmed yet; a byte to write; a byte to read.
+module _ (k : Memory) (address nth unconfirmed : ℕ) (write b : Bool) {m : Bool} where
+  pub byte-ends : m ≡ false → protocol.speak k (protocol.byteS write address nth unconfirmed) m b ≡ protocol.turn protocol.deaf false k
   unfolding protocol.speak
   byte-ends e = rw e
 
-  pub byte-takes : m ≡ true → write ≡ true
-      → protocol.speak k (protocol.byteS write address nth) m b ≡ protocol.turn (protocol.takes address nth topBit 0) true k
-  unfolding protocol.speak
-  byte-takes e f = rw (e, f)
+  module _ (seen : Seen) {d : ℕ} (s : SeenIn k address seen) (e : m ≡ true) (p : d ≡ delayBy (seen .wait) write nth) where
+    pub byte-waits : unconfirmed < d
+        → protocol.speak k (protocol.byteS write address nth unconfirmed) m b
+        ≡ protocol.turn (protocol.byteS write address nth (unconfirmed + 1)) false k
+    unfolding protocol.speak
+    byte-waits l = rw (e, seen-delay k write address nth seen s, ← p, lt-ltb unconfirmed d l)
 
-  pub byte-sends : (seen : Seen) {w : ℕ} → SeenIn k address seen → m ≡ true → write ≡ false → w ≡ word dataBits (seen .byte)
-      → protocol.speak k (protocol.byteS write address nth) m b ≡ protocol.turn (protocol.sends address nth topBit w) true k
-  unfolding protocol.speak
-  byte-sends seen s e f g = rw (e, f, seen-holds k address seen s, g)
+    confirms : d ≤ unconfirmed
+        → protocol.speak k (protocol.byteS write address nth unconfirmed) m b ≡ protocol.turn (protocol.confirmed k write address nth) true k
+    unfolding protocol.speak
+    confirms l = rw (e, seen-delay k write address nth seen s, ← p, le-ltb unconfirmed d l)
+
+    pub byte-takes : d ≤ unconfirmed → write ≡ true
+        → protocol.speak k (protocol.byteS write address nth unconfirmed) m b ≡ protocol.turn (protocol.takes address nth topBit 0) true k
+    byte-takes l f = confirms l ∙ rw f
+
+    pub byte-sends : {w : ℕ} → d ≤ unconfirmed → write ≡ false → w ≡ word dataBits (seen .byte)
+        → protocol.speak k (protocol.byteS write address nth unconfirmed) m b ≡ protocol.turn (protocol.sends address nth topBit w) true k
+    byte-sends l f g = confirms l ∙ rw (f, seen-holds k address seen s, g)
 
 -- An address, and the one before the next.
 around : (a : ℕ) → before (nextAddress a % registerCount) ≡ a % registerCount
@@ -176,7 +191,7 @@ more-is k b seen s = go (ltb (before (addressBy b) + 1) registerCount) refl
 module _ (k : Memory) (b : Body) (m far : Bool) (seen : Seen) {f : Bool} where
   pub asks-on : SeenIn k (addressBy b) seen → f ≡ goesOn b (seen .right) → f ≡ true
       → protocol.speak k (protocol.askP (b .write) (b .good) (before (addressBy b)) (b .nth)) m far
-      ≡ protocol.turn (protocol.byteS (b .write) (addressBy b) (b .nth + 1)) false k
+      ≡ protocol.turn (protocol.byteS (b .write) (addressBy b) (b .nth + 1) 0) false k
   unfolding protocol.speak
   asks-on s e t = rw (more-is k b seen s, ← e, t, on-near b (seen .right) (sym e ∙ t))
 

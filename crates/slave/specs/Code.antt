@@ -60,7 +60,7 @@ formBy Locks b = frame 0 (protocol.locks (min (b .column) headerColumns) (b .wor
 formBy Head b = frame 0 (protocol.head (min (b .column) (headerColumns + 1)) (b .word) (numberOf (b .number)))
 formBy AskR b = frame 0 (protocol.askR (addressBy b))
 formBy AskW b = frame 0 (protocol.askW (addressBy b) (b .write))
-formBy ByteS b = frame 0 (protocol.byteS (b .write) (addressBy b) (b .nth))
+formBy ByteS b = frame 0 (protocol.byteS (b .write) (addressBy b) (b .nth) (b .word))
 formBy Sends b = frame 0 (protocol.sends (addressBy b) (b .nth) (leftOf b) (b .word))
 formBy Takes b = frame 0 (protocol.takes (addressBy b) (b .nth) (leftOf b) (b .word))
 formBy AskP b = frame 0 (protocol.askP (b .write) (b .good) (before (addressBy b)) (b .nth))
@@ -99,7 +99,7 @@ isDeaf (locks column so-far number) = false
 isDeaf (head column so-far number) = false
 isDeaf (askR address) = false
 isDeaf (askW address r) = false
-isDeaf (byteS write address nth) = false
+isDeaf (byteS write address nth unconfirmed) = false
 isDeaf (sends address nth left w) = false
 isDeaf (takes address nth left so-far) = false
 isDeaf (askP write good address nth) = false
@@ -114,10 +114,11 @@ saysNothing (frame z p) = isDeaf p
 abbrev pub turned : Phase → (zeros : ℕ) → Body → (sent : Bool) → (byte : ℕ) → Turn
 turned phase zeros b sent byte = record { next = record { phase = phase; zeros = zeros; body = b }; sent = sent; byte = byte }
 
--- What was seen at an address is in a slave's memory.
+-- What was seen at an address is in a slave's memory, and so is the waiting number.
 pub record SeenIn (k : Memory) (address : ℕ) (seen : Seen) : Type 0 where
   pub right-there : getD (k .rights) address 0 ≡ seen .right
   pub byte-there : getD (k .registers) address 0 ≡ seen .byte
+  pub wait-there : k .wait ≡ seen .wait
 
 -- The step of protocol's slave that a turn stands for: the byte stands at the address, and no other changes.
 abbrev pub stepOf : Memory → (address : ℕ) → Turn → protocol.Step

@@ -6,6 +6,7 @@ use crate::Body;
 use crate::Phase;
 use crate::Seen;
 use crate::Turn;
+use crate::made::UNASKED;
 use crate::made::said;
 
 // R and W: "The addressed slave repeats R."
@@ -24,6 +25,7 @@ pub fn ask_w(zeros: u64, body: Body, seen: Seen) -> Turn
     let mut n = body;
     n.write = seen.master;
     n.nth = 1;
+    n.word = UNASKED;
     if body.write == seen.master {
         said(Phase::Deaf, zeros, n, !seen.master, seen.byte)
     } else if allowed(seen.right, seen.master) {

@@ -1,12 +1,15 @@
 // A byte of a register access: its S, its twelve bits, its P.
 ghost use mathlib.Core.Path.{_≡_};
+ghost use Prim.Native.Nat.{_≤_};
 ghost use Rattle.protocol.specs.Division.{dataBits, word};
+ghost use Rattle.protocol.specs.Memory.{delayBy};
 ghost use Rattle.slave.specs.Code.{nextAddress, Meets, goesOn};
 use crate::Body;
 use crate::Phase;
 use crate::Seen;
 use crate::Turn;
 use crate::access::allowed;
+use crate::made::UNASKED;
 use crate::made::said;
 use machine::BYTES;
 use machine::CHECKS;
@@ -16,14 +19,17 @@ use machine::TOP_BIT;
 // A byte's bits are counted down to 0; a count is read below the next power of two.
 const COUNTS: u64 = 16;
 
-// Byte: "A 0 at S is answered 0 and ends the access; the slave goes deaf. The addressed slave confirms S = 1 at once with 1."
+// Byte: "A 0 at S is answered 0 and ends the access; the slave goes deaf." Request 03: "with S = 1 it answers 0 that many times and then 1".
 pub fn byte_s(zeros: u64, body: Body, seen: Seen) -> Turn
     ensures { λ r. ⌜ Meets Phase.ByteS zeros body seen r ⌝ }
 {
     let mut n = body;
     n.left = TOP_BIT;
     if seen.master {
-        if body.write {
+        if body.word < delay(body.write, body.nth, seen.wait) {
+            n.word = body.word + 1;
+            said(Phase::ByteS, zeros, n, false, seen.byte)
+        } else if body.write {
             n.word = 0;
             said(Phase::Takes, zeros, n, true, seen.byte)
         } else {
@@ -32,6 +38,17 @@ pub fn byte_s(zeros: u64, body: Body, seen: Seen) -> Turn
         }
     } else {
         said(Phase::Deaf, zeros, n, false, seen.byte)
+    }
+}
+
+// Request 03: "Every byte of a read waits; in a write the first byte does not, later ones do."
+fn delay(write: bool, nth: u64, wait: u8) -> u64
+    ensures { λ r. ⌜ (r ≡ delayBy wait write nth) × (r ≤ 255) ⌝ }
+{
+    if write {
+        if nth == 1 { 0 } else { wait as u64 }
+    } else {
+        wait as u64
     }
 }
 
@@ -90,6 +107,7 @@ pub fn ask_p(zeros: u64, body: Body, seen: Seen) -> Turn
     let mut n = body;
     if goes_on(body, seen.right) {
         n.nth = body.nth + 1;
+        n.word = UNASKED;
         said(Phase::ByteS, zeros, n, false, seen.byte)
     } else {
         said(Phase::Deaf, zeros, n, true, seen.byte)

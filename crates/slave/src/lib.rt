@@ -39,7 +39,8 @@ pub enum Phase {
     AskP,
 }
 
-// The numbers of all phases side by side; each phase looks at its own. In AskW `write` holds R, in AskP `address` is the next one.
+// The numbers of all phases side by side; each phase looks at its own. In AskW `write` holds R, in ByteS `word` counts the S that were not
+// confirmed, in AskP `address` is the next one.
 pub struct Body {
     pub column: u64,
     pub word: u64,
@@ -57,12 +58,13 @@ pub struct Slave {
     pub body: Body,
 }
 
-// What a slave sees in a column: the master's bit, its far neighbour's bit, and the right and the byte at its address.
+// What a slave sees in a column: the master's bit, its far neighbour's bit, the right and the byte at its address, and its waiting number.
 pub struct Seen {
     pub master: bool,
     pub far: bool,
     pub right: u8,
     pub byte: u8,
+    pub wait: u8,
 }
 
 // What a column makes of it; `byte` stands at its address from now on.

@@ -9,6 +9,9 @@ use crate::Turn;
 // The numbers are below IDS, and this stands for none.
 pub const NONE: u64 = machine::IDS;
 
+// In ByteS the S of this byte has not come yet.
+pub const UNASKED: u64 = 0;
+
 // A next state, the bit that is sent, and the byte that stands at the address from now on.
 pub fn said(phase: Phase, zeros: u64, body: Body, sent: bool, byte: u8) -> Turn
     ensures { λ r. ⌜ r ≡ turned phase zeros body sent byte ⌝ }

@@ -6,26 +6,34 @@ fn main() {
     let mut row = io::buffer();
     requested(
         b"read of ID 0, address 44, one byte: ",
-        build::build_read(0, 0x44, 1, &mut row),
+        build::build_read(0, 0x44, 1, 0, &mut row),
     );
     answered(b"and one zero more\n", &row, 0, 47);
     answered(b"thirteen zeros before S\n", &row, 1, 47);
     requested(
         b"read of ID 0, address 7f, one byte: ",
-        build::build_read(0, 0x7f, 1, &mut row),
+        build::build_read(0, 0x7f, 1, 0, &mut row),
     );
     answered(b"P is 1\n", &row, 0, 46);
     requested(
         b"read of ID 0, address 40, 64 bytes: ",
-        build::build_read(0, 0x40, 64, &mut row),
+        build::build_read(0, 0x40, 64, 0, &mut row),
     );
     requested(
         b"read of ID 0, address 41, 64 bytes: ",
-        build::build_read(0, 0x41, 64, &mut row),
+        build::build_read(0, 0x41, 64, 0, &mut row),
+    );
+    requested(
+        b"read of ID 0, address 40, 64 bytes, each waiting 49 columns: ",
+        build::build_read(0, 0x40, 64, 49, &mut row),
+    );
+    requested(
+        b"the same, waiting 50: ",
+        build::build_read(0, 0x40, 64, 50, &mut row),
     );
     requested(
         b"write of 5b to ID 0, address 44: ",
-        build::build_write(0, 0x44, b"\x5b", &mut row),
+        build::build_write(0, 0x44, b"\x5b", 0, &mut row),
     );
     answered(b"echoed\n", &row, 0, 46);
 }
@@ -63,7 +71,8 @@ fn rows(cdm: &[u8], registers: &mut [u8], cds: &mut [u8]) {
 // The run's end, the master row and the answers.
 fn told(cdm: &[u8], registers: &mut [u8], cds: &mut [u8]) {
     let rights = [3u8; 128];
-    ended(run::run(1, &rights, registers, cdm, cds));
+    let waits = [0u8; 1];
+    ended(run::run(1, &rights, &waits, registers, cdm, cds));
     line(b"cdm ", cdm);
     line(b"cds ", cds);
 }

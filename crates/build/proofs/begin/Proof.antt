@@ -1,16 +1,18 @@
 -- `build::begin` meets its contract: the columns are put where nothing refuses. Assumes nothing.
+use mathlib.Core.Path.{sym, _∙_}
 use borrow.Author.Needs.{needs}
 use borrow.Author.Tests.{eq-eqb, ne-eqb}
 use Rattle.job.proofs.Refusals.{gave-none}
-use Rattle.build.proofs.Ends.{access-inside, access-fits}
+use Rattle.build.proofs.Requests.{inside}
+use Rattle.build.proofs.Ends.{is-inside, fits, outside-asks, length-asks}
 use Rattle.build.proofs.begin.Statement.{statement}
 use Rattle.build.proofs.begin.Tie as tie
 
 put-access-requires : tie.Need-put-access-requires
 put-access-requires c κs =
     let e = gave-none _ (c .before .before .refusal .ensures) (c .before .if1 .taken) in
-    let within = access-inside _ _ _ _ e in
-    let room = access-fits _ _ _ _ e in
+    let within = inside _ _ _ (sym (outside-asks _ _ _ _ _) ∙ is-inside _ _ e) in
+    let room = rw (length-asks _ _ _ _ _) at (fits _ _ e) in
     search needs
 
 returns : tie.Need-returns

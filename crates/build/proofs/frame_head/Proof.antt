@@ -1,5 +1,4 @@
 -- `build::frame_head` meets its contract: S above the header's word. Assumes nothing.
-use mathlib.Core.Path.{_≡_}
 use native.Mathlib.Omega.{arith}
 use borrow.Author.Needs.{needs}
 use Rattle.protocol.proofs.Division.{check-lt}

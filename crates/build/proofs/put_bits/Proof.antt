@@ -1,13 +1,12 @@
 -- `build::put_bits` meets its contract. The loop's invariant: the bits that are left, laid on the buffer of now, are all the bits laid on
 -- the first buffer. Assumes nothing.
 use mathlib.Core.List.{map}
-use mathlib.Core.Path.{_≡_, refl, sym, ap, _∙_}
+use mathlib.Core.Path.{_≡_, _∙_}
 use Prim.Native.Nat.{_+_, _≤_}
-use native.Mathlib.Omega.{arith}
 use borrow.Author.Needs.{needs}
 use lib.ListN.{length, length-set}
-use lib.Seq.{sets, length-sets}
-use Rattle.build.proofs.Columns.{bit-laid, none-laid}
+use lib.Seq.{sets}
+use Rattle.build.proofs.Columns.{bit-laid}
 use Rattle.protocol.specs.Bits.{num, bits}
 use Rattle.build.proofs.put_bits.Statement.{statement}
 use Rattle.build.proofs.put_bits.Tie as tie
@@ -33,9 +32,8 @@ same-length : tie.Need-same-length Inv-loop μ-loop
 same-length c = c .before .loop .inv .2
 
 returns : tie.Need-returns Inv-loop μ-loop
-returns c =
-    let l = c .before .loop in
-    (search needs, sym (none-laid (l .out) (l .p) (l .left) _ (c .loop-test .left)) ∙ l .inv .3)
+unfolding bits
+returns c = let l = c .before .loop in let none : l .left ≡ 0 = search needs in (search needs, rw none at (l .inv .3))
 
 pub put-bits-spec : {M : Type 1} → statement M
 put-bits-spec =

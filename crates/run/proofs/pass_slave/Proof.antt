@@ -17,15 +17,15 @@ use Rattle.run.proofs.pass_slave.Statement.{statement}
 use Rattle.run.proofs.pass_slave.Tie as tie
 
 abbrev Inv-loop : tie.InvT-loop
-Inv-loop rights registers₀ cdm cds₀ slave₀ i₀ registers cds slave i =
+Inv-loop rights wait registers₀ cdm cds₀ slave₀ i₀ registers cds slave i =
     (i ≤ length cdm) × (length registers ≡ length registers₀) × (length cds ≡ length cds₀)
-    × (take i cds ++ map num (sentBy (protocol.slave (memoryBy registers rights) (stateOf slave)) (rowOf (drop i cdm)) (rowOf (drop i cds)))
-    ≡ map num (sentBy (newBy registers₀ rights) (rowOf cdm) (rowOf cds₀)))
-    × (afterBy (protocol.slave (memoryBy registers rights) (stateOf slave)) (rowOf (drop i cdm)) (rowOf (drop i cds))
-    ≡ afterBy (newBy registers₀ rights) (rowOf cdm) (rowOf cds₀))
+    × (take i cds ++ map num (sentBy (protocol.slave (memoryBy registers rights wait) (stateOf slave)) (rowOf (drop i cdm)) (rowOf (drop i cds)))
+    ≡ map num (sentBy (newBy registers₀ rights wait) (rowOf cdm) (rowOf cds₀)))
+    × (afterBy (protocol.slave (memoryBy registers rights wait) (stateOf slave)) (rowOf (drop i cdm)) (rowOf (drop i cds))
+    ≡ afterBy (newBy registers₀ rights wait) (rowOf cdm) (rowOf cds₀))
 
 abbrev μ-loop : tie.MeasureT-loop
-μ-loop rights registers₀ cdm cds₀ slave₀ i₀ registers cds slave i = length cdm - i
+μ-loop rights wait registers₀ cdm cds₀ slave₀ i₀ registers cds slave i = length cdm - i
 
 loop-holds : tie.Need-loop-holds Inv-loop μ-loop
 loop-holds c = (search needs, refl, refl, rw (c .new .ensures), rw (c .new .ensures))
@@ -37,11 +37,12 @@ loop-again c =
     let start = test .before .before .before .before .before .before .before in
     let cdm = start .args .cdm .now in
     let rights = start .args .rights .now in
+    let wait = start .args .wait in
     let small = test .loop-test .taken in
     let room : l .i < length (l .cds) = omega (arith, l .inv .2, start .pre .2, small) in
     ⊎-elim
     (λ w.
-    let own = passes-on (memoryBy (l .registers) rights) (stateOf (l .slave)) _ _ (sym (c .before .silent .ensures) ∙ w .0 .taken) in (
+    let own = passes-on (memoryBy (l .registers) rights wait) (stateOf (l .slave)) _ _ (sym (c .before .silent .ensures) ∙ w .0 .taken) in (
       search needs,
       rw (w .2) (l .inv .1),
       rw (w .3, length-set) (l .inv .2),
@@ -51,7 +52,7 @@ loop-again c =
     (λ w.
     let address = w .1 in
     let step = w .4 in
-    let own = own-step (l .registers) rights (l .slave) (address .result) _ _ (step .result) (address .ensures .0) (step .ensures) in (
+    let own = own-step (l .registers) rights wait (l .slave) (address .result) _ _ (step .result) (address .ensures .0) (step .ensures) in (
       search needs,
       rw (w .7, length-set) (l .inv .1),
       rw (w .8, length-set) (l .inv .2),
@@ -70,7 +71,7 @@ returns : tie.Need-returns Inv-loop μ-loop
 returns c =
     let l = c .before .loop in
     let start = c .before .before .before .before .before .before .before in
-    passed _ _ (start .args .cdm .now) _ _ _ (l .slave) (l .i) (c .loop-test .left)
+    passed _ _ _ (start .args .cdm .now) _ _ _ (l .slave) (l .i) (c .loop-test .left)
     (omega (arith, l .inv .2, start .pre .2, c .loop-test .left)) (l .inv .3) (l .inv .4)
 
 pub pass-slave-spec : {M : Type 1} → statement M

@@ -20,11 +20,16 @@ returns-3 c = search cases
 
 returns-4 : tie.Need-returns-4
 unfolding refusals first
-returns-4 c = rw (← c .before .before .none-above .ensures, c .before .if4 .taken, c .wrong-row .ensures) (search cases)
+returns-4 c = rw (← c .before .before .none-above .ensures, c .before .if4 .taken) (search cases)
 
 returns-5 : tie.Need-returns-5
 unfolding refusals first
-returns-5 c = rw (← c .before .none-above .ensures, c .if4 .left) (search cases)
+returns-5 c =
+    rw (← c .before .before .before .none-above .ensures, c .before .before .if4 .taken, c .wrong-row .ensures) (search cases)
+
+returns-6 : tie.Need-returns-6
+unfolding refusals first
+returns-6 c = rw (← c .before .none-above .ensures, c .if4 .left) (search cases)
 
 pub refusal-spec : {M : Type 1} → statement M
 refusal-spec =
@@ -38,4 +43,5 @@ refusal-spec =
     returns-2
     returns-3
     returns-4
-    returns-5)
+    returns-5
+    returns-6)
