@@ -6,7 +6,11 @@ ghost use mathlib.Core.Path.{_≡_};
 ghost use Prim.Native.Nat.{_<_};
 ghost use Rattle.protocol.specs.Division.{headerBits, dataBits, checkWidth, polynomial, divide, check, fits};
 ghost use Rattle.protocol.specs.Bits.{push};
-use table::CHECKS;
+use table::ACCESS_CHECKS;
+use table::COMMAND_CHECKS;
+
+// CTS, the highest of the eleven bits.
+const CTS: usize = 1024;
 
 // The remainders of the sixteen words of four bits, four bits each, that of 0 lowest.
 const REMAINDERS: u64 = 0x2147_ed8b_9afc_5630;
@@ -63,5 +67,9 @@ fn at(word: usize) -> u8
     requires { ⌜ word < 2048 ⌝ }
     ensures { λ r. ⌜ r ≡ check headerBits word ⌝ }
 {
-    CHECKS[word]
+    if word < CTS {
+        COMMAND_CHECKS[word]
+    } else {
+        ACCESS_CHECKS[word - CTS]
+    }
 }

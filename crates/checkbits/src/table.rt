@@ -1,5 +1,8 @@
-// The check bits of every eleven-bit header word, sent inverted: entry w is the check of w.
-pub const CHECKS: [u8; 2048] = [
+// The check bits of every eleven-bit header word, sent inverted: 2,048 entries, in two halves by CTS, since a lookup costs as much as the
+// array that it looks into is long.
+
+// CTS = 0, a command: entry w is the check of w.
+pub const COMMAND_CHECKS: [u8; 1024] = [
     15, // IDS 00 to 1f
     12,
     9,
@@ -1024,6 +1027,10 @@ pub const CHECKS: [u8; 2048] = [
     15,
     10,
     9,
+];
+
+// CTS = 1, a register access: entry w is the check of 1,024 + w.
+pub const ACCESS_CHECKS: [u8; 1024] = [
     6, // ID 0, address 0
     5,
     0,
