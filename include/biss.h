@@ -10,7 +10,7 @@
  *    4  a right above 3                               15  tab missing
  *    5  a row of more than 4,096 columns              16  line feed missing
  *    6  two rows of different length                  17  the text ends inside a line
- *    7  a row byte that is not 0 or 1                18  waits not one byte per slave
+ *    7  a row byte that is not 0 or 1                 18  waits not one byte per slave
  *    8  opening column greater than the length
  *    9  the result needs more room than was lent
  *   10  id over 7, address over 127, CMD over 3, count 0 or over 64, or address + count over 128
