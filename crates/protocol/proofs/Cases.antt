@@ -118,7 +118,7 @@ samples =
     (locked ∷ entry Kind.read 46 0 68 90 ∷ entry Kind.end 48 0 0 0 ∷ [])
     ∷ sample (slow 3) (rowFor (write 0 0x44 (0x5B ∷ 0x01 ∷ []) 3)) []
     (locked ∷ entry Kind.written 44 0 68 91 ∷ entry Kind.written 61 0 69 1 ∷ [])
-    -- the master gives up: at the first byte, and at the second; it stops there and repeats nothing, which is no `mute`
+    -- the master gives up: at the first byte, and at the second; a 0 in the place of its first S is no `mute`
     ∷ sample (slow 3) (rowFor (read 0 0x44 1 1) ++ false ∷ []) []
     (locked ∷ entry Kind.mute 34 0 68 0 ∷ entry Kind.end 47 0 0 0 ∷ [])
     ∷ sample (slow 1) (rowFor (read 0 0x44 1 1) ++ true ∷ false ∷ []) []

@@ -15,7 +15,7 @@ use Rattle.protocol.specs.Slave.{Slave, byteS, turn, confirmed, speak}
 use Rattle.protocol.specs.Chain.{switchedOn, answersFrom, memoriesAfter}
 use Rattle.protocol.specs.Chain
 use Rattle.protocol.specs.Building.{read, write, command, rowFor}
-use Rattle.protocol.specs.Entries.{Kind, Place, opened, Entry}
+use Rattle.protocol.specs.Entries.{Place, opened, Entry}
 use Rattle.protocol.specs.Reader.{Phase, Column, columns, listFrom, begun}
 use Rattle.protocol.specs.Reader
 use Rattle.protocol.specs.Account.{account}

@@ -39,7 +39,7 @@ one right = holding 0x44 0x5A right ∷ []
 
 -- .. and with all rights and a waiting number.
 unfoldable pub slow : (wait : ℕ) → List Memory
-slow wait = record { registers = set (replicate registerCount 0) 0x44 0x5A; rights = replicate registerCount 3; wait = wait } ∷ []
+slow wait = let k : Memory = holding 0x44 0x5A 3 in record { registers = k .registers; rights = k .rights; wait = wait } ∷ []
 
 -- Eight slaves, of which ID 7 may be read and holds 01 at address 7F, and so many more, which hold FF there.
 eightAnd : (more : ℕ) → List Memory

@@ -1,5 +1,5 @@
--- Two runs: chains with the same rights and waits whose registers differ only where no read is allowed answer alike. Each slave of the one stands
--- in the state of its twin in the other, and a slave that waits at the S of a read may read there. Assumes nothing.
+-- Two runs: chains with the same rights and waits whose registers differ only where no read is allowed answer alike. Each slave of the one
+-- stands in the state of its twin in the other, and a slave at the S of a read may read there. Assumes nothing.
 use mathlib.Core.Path.{_≡_, refl, sym, ap₂, subst, _∙_}
 use mathlib.Core.Bool.{Bool, true, false, cond, not, _&&_, Bool·beq, false≢true}
 use mathlib.Core.List.{List, [], _∷_}
@@ -33,15 +33,19 @@ pub record Like (k k′ : Memory) : Type 0 where
 abbrev pub Alike : List Memory → List Memory → Type 0
 Alike ks ks′ = Matched Like ks ks′
 
--- A slave at the S of a read may read there.
+-- What a read may look at; a write looks at nothing.
+abbrev Readable : Memory → (write : Bool) → (address : ℕ) → Type 0
+Readable k false address = allows k false address ≡ true
+Readable k true address = Unit {0}
+
+-- A slave at the S of a read may read there, however often S came.
 abbrev Open : Memory → Phase → Type 0
 Open k deaf = Unit {0}
 Open k (locks column so-far number) = Unit {0}
 Open k (head column so-far number) = Unit {0}
 Open k (askR address) = Unit {0}
 Open k (askW address r) = Unit {0}
-Open k (byteS false address nth unconfirmed) = allows k false address ≡ true
-Open k (byteS true address nth unconfirmed) = Unit {0}
+Open k (byteS write address nth unconfirmed) = Readable k write address
 Open k (sends address nth left what) = Unit {0}
 Open k (takes address nth left so-far) = Unit {0}
 Open k (askP write good address nth) = Unit {0}
@@ -58,15 +62,9 @@ open-called k (access id address) none = tt
 open-called k (access id address) (some i) = either (Open k) (eqb i id) tt tt
 
 -- Accepted: the right allows the access.
-open-byte : (k : Memory) (write : Bool) (address nth : ℕ) → allows k write address ≡ true → Open k (byteS write address nth 0)
-open-byte k false address nth h = h
-open-byte k true address nth h = tt
-
--- While it waits it stays so.
-open-still : (k : Memory) (write : Bool) (address nth unconfirmed : ℕ) → Open k (byteS write address nth unconfirmed)
-    → Open k (byteS write address nth (unconfirmed + 1))
-open-still k false address nth unconfirmed h = h
-open-still k true address nth unconfirmed h = tt
+readable : (k : Memory) (write : Bool) (address : ℕ) → allows k write address ≡ true → Readable k write address
+readable k false address h = h
+readable k true address h = tt
 
 -- The same write in both.
 set-like : (l l′ : List ℕ) (i j v : ℕ) → length l ≡ length l′ → getD l j 0 ≡ getD l′ j 0 → getD (set l i v) j 0 ≡ getD (set l′ i v) j 0
@@ -96,7 +94,7 @@ like-took k k′ address w l false = l
 -- W and P: a slave goes on where its right allows it, and otherwise goes deaf.
 decides : (k k′ : Memory) (write : Bool) (address nth : ℕ) (x y test : Bool) → Like k k′ → (test ≡ true → allows k write address ≡ true)
     → SameTurn (cond test (turn (byteS write address nth 0) x k) (turn deaf y k)) (cond test (turn (byteS write address nth 0) x k′) (turn deaf y k′))
-decides k k′ write address nth x y true l h = same (byteS write address nth 0) x l (open-byte k write address nth (h refl))
+decides k k′ write address nth x y true l h = same (byteS write address nth 0) x l (readable k write address (h refl))
 decides k k′ write address nth x y false l h = same deaf y l tt
 
 second : (a b : Bool) → a && b ≡ true → b ≡ true
@@ -108,16 +106,16 @@ unfolding more
 same-more k k′ write address nth l = rw (l .rights write (address + 1))
 
 -- S is confirmed, or not yet.
-same-confirmed : (k k′ : Memory) (write : Bool) (address nth unconfirmed : ℕ) → Like k k′ → Open k (byteS write address nth unconfirmed)
+same-confirmed : (k k′ : Memory) (write : Bool) (address nth : ℕ) → Like k k′ → Readable k write address
     → SameTurn (turn (confirmed k write address nth) true k) (turn (confirmed k′ write address nth) true k′)
-same-confirmed k k′ false address nth unconfirmed l o = rw (← l .readable address o) (same _ true l tt)
-same-confirmed k k′ true address nth unconfirmed l o = same _ true l tt
+same-confirmed k k′ false address nth l o = rw (← l .readable address o) (same _ true l tt)
+same-confirmed k k′ true address nth l o = same _ true l tt
 
-waits : (k k′ : Memory) (write : Bool) (address nth unconfirmed : ℕ) (test : Bool) → Like k k′ → Open k (byteS write address nth unconfirmed)
+waits : (k k′ : Memory) (write : Bool) (address nth unconfirmed : ℕ) (test : Bool) → Like k k′ → Readable k write address
     → SameTurn (cond test (turn (byteS write address nth (unconfirmed + 1)) false k) (turn (confirmed k write address nth) true k))
     (cond test (turn (byteS write address nth (unconfirmed + 1)) false k′) (turn (confirmed k′ write address nth) true k′))
-waits k k′ write address nth unconfirmed true l o = same _ false l (open-still k write address nth unconfirmed o)
-waits k k′ write address nth unconfirmed false l o = same-confirmed k k′ write address nth unconfirmed l o
+waits k k′ write address nth unconfirmed true l o = same _ false l o
+waits k k′ write address nth unconfirmed false l o = same-confirmed k k′ write address nth l o
 
 -- A column does the same to both: only the S of a read looks at a register, and there the slave may read.
 same-turn : (k k′ : Memory) (p : Phase) (m b : Bool) → Like k k′ → Open k p → SameTurn (speak k p m b) (speak k′ p m b)

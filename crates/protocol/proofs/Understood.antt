@@ -2,7 +2,7 @@
 -- and P goes on to the next. The columns of a header and of a byte are computed; byte follows byte by induction. Assumes nothing.
 use mathlib.Core.Path.{_≡_, refl, ap, ap₂, _∙_}
 use mathlib.Core.Bool.{Bool, true, false, not, cond}
-use mathlib.Core.List.{List, [], _∷_, _++_, map, append-nil, head-eq-of-cons-eq, tail-eq-of-cons-eq}
+use mathlib.Core.List.{List, [], _∷_, _++_, append-nil, head-eq-of-cons-eq, tail-eq-of-cons-eq}
 use mathlib.Core.Option.{some}
 use Prim.Native.Nat.{ℕ, zero, suc, _+_, _*_, _/_, _^_, _<_}
 use native.Mathlib.Nat.{add-zero, add-assoc, mul-suc, div-eq-of-lt, div-one}
@@ -22,7 +22,7 @@ use Rattle.protocol.specs.Building
 use Rattle.protocol.specs.Entries.{Kind, event, Entry}
 use Rattle.protocol.specs.Account.{Phase, askR, byteS, carries, askP, Told, headed, asked, tell, begun, step, account}
 use Rattle.protocol.specs.Replay.{put}
-use Rattle.protocol.specs.Understood.{frameAt, inFrame, Allowed, lockShown, commandShown, delayed, askedColumn, byteColumn, byteShown, bytesShown, standing, closing}
+use Rattle.protocol.specs.Understood.{frameAt, inFrame, Allowed, lockShown, commandShown, delayed, byteColumn, byteShown, bytesShown, standing, closing}
 use Rattle.protocol.proofs.Words.{push-bit, word-lt, byte-word, header-access, header-command}
 use Rattle.protocol.proofs.Division.{accepted}
 use Rattle.laws.proofs.Every.{Every, tested, beq-not}
@@ -92,6 +92,10 @@ carried-next true k address i v vs h = h .1
 -- An entry of the frame given, and what follows it from its phase on.
 abbrev gives : List Memory → Entry → Phase → List Bool → Walk Phase
 gives ks e q next = gave e (phases (put ks (e .event)) q (frameAt (suc (e .place .column))) next)
+
+-- The column of the first S of byte i.
+abbrev askedColumn : (wait : ℕ) → (write : Bool) → ℕ → ℕ
+askedColumn wait write i = restZeros + 1 + headerColumns + 2 + (topBit + 3) * i + wait * delayed write i
 
 -- Byte 0 is asked for behind W.
 first-asked : (wait : ℕ) (write : Bool) → askedColumn wait write 0 ≡ restZeros + headerColumns + 3

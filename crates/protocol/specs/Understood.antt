@@ -49,11 +49,7 @@ delayed false n = n
 delayed true zero = 0
 delayed true (suc n) = n
 
--- The column of the first S of byte i: 32 for byte 0, fourteen more for each byte before it, and those in which one of them waited ..
-abbrev pub askedColumn : (wait : ℕ) → (write : Bool) → ℕ → ℕ
-askedColumn wait write i = restZeros + 1 + headerColumns + 2 + (topBit + 3) * i + wait * delayed write i
-
--- .. and that of the S which is confirmed.
+-- The column in which S of byte i is confirmed: 32 for byte 0, fourteen more for each byte before it, and those in which a byte waited.
 abbrev pub byteColumn : (wait : ℕ) → (write : Bool) → ℕ → ℕ
 byteColumn wait write i = restZeros + 1 + headerColumns + 2 + (topBit + 3) * i + wait * delayed write (suc i)
 
