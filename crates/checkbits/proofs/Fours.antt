@@ -1,5 +1,5 @@
 -- A division four bits at a time: the number that holds the sixteen remainders, computed at each remainder with each four bits, and
--- four bits more behind any number of bits, for a byte's eight and a header's eleven. Assumes nothing.
+-- four bits more behind any number of bits, for a header's eleven. Assumes nothing.
 use mathlib.Core.Path.{_≡_, refl, sym, ap, _∙_}
 use mathlib.Core.Bool.{Bool, true}
 use Prim.Native.Nat.{ℕ, _+_, _*_, _/_, _%_, _^_, _<_}
@@ -32,7 +32,7 @@ four-at r b h =
     ∙ divide-low checkWidth polynomial checkWidth (b % 16) b r (mod-mod b 16))
 
 -- The last four of n + 4 bits go into what remains of the n before them ..
-pub four-more : (n v : ℕ)
+four-more : (n v : ℕ)
     → divide checkWidth polynomial checkWidth v (remainder n (v / 2 ^ checkWidth)) ≡ remainder (n + checkWidth) v
 unfolding remainder
 four-more n v =
