@@ -34,9 +34,9 @@ harness seed S            one case, shown
 harness watch FIRST N     N cases on one thread, each seed printed before it
                           runs: the last one printed is the one that crashed
 harness bench             times model against library
-harness programs [write]  the files of the indexing program's crates and the
-                          recording among the examples held to the model, or
-                          written
+harness programs [write]  the files of the indexing program's crates, what the
+                          card prints and the recording among the examples held
+                          to the model, or written; docs/CHECK.md held to both
 harness index PROGRAM N   the linked program on the named inputs and on the texts
                           of N seeds
 harness selftest          the bench card on the model, and the wrapper's words

@@ -1,6 +1,8 @@
 //! The indexing program: the files of the crates and of the example that hold some of
-//! its inputs, and the linked program on all of them and on texts from seeds.
+//! its inputs, and the linked program on all of them and on texts from seeds. And what
+//! the program `card` prints.
 
+mod card;
 mod inputs;
 
 use crate::generate::Random;
@@ -64,10 +66,12 @@ impl Input {
     }
 }
 
-/// The files of every program crate, and the recording among the examples.
+/// The files of the indexing program's crates, what the card prints, and the recording
+/// among the examples.
 fn files(root: &Path) -> Vec<(PathBuf, Vec<u8>)> {
+    let card = (root.join("crates/card/stdout"), card::printed());
     let recording = (root.join("examples/slow_memory.rows"), slow_memory().stdin);
-    held().iter().flat_map(|input| input.files(root)).chain([recording]).collect()
+    held().iter().flat_map(|input| input.files(root)).chain([card, recording]).collect()
 }
 
 /// Writes these files.
@@ -82,8 +86,8 @@ pub fn write(root: &Path) -> bool {
     true
 }
 
-/// Whether every program crate reads and prints what the model says, and the recording
-/// is the model's.
+/// Whether these files are the model's, and the page on the check shows what the card
+/// prints.
 pub fn agree(root: &Path) -> bool {
     let files = files(root);
     let wrong: Vec<_> =
@@ -91,7 +95,7 @@ pub fn agree(root: &Path) -> bool {
     wrong.iter().for_each(|(path, _)| println!("PROGRAM {} is not the model's", path.display()));
     let (all, wrong_ones) = (files.len(), wrong.len());
     println!("program crates and a recording: {all} files, {wrong_ones} not as the model has them");
-    wrong.is_empty()
+    card::page_agrees(root) && wrong.is_empty()
 }
 
 /// Whether the linked program agrees with the model on the inputs with a name

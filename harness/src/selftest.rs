@@ -50,16 +50,22 @@ pub fn selftest() -> (usize, Vec<String>) {
     (card.tried, card.failed)
 }
 
+/// The check bits of the card: of bytes, of register accesses by ID and address, of
+/// broadcasts.
+pub const BYTES: [(u16, u8); 5] = [(0x00, 0xF), (0x01, 0xC), (0x80, 0x1), (0xFF, 0xB), (0x5A, 0x0)];
+pub const ACCESSES: [(u8, u8, u8); 5] =
+    [(0, 0x00, 0x6), (0, 0x44, 0xD), (1, 0x41, 0xC), (0, 0x7C, 0x9), (7, 0x7F, 0x0)];
+pub const BROADCASTS: [(u8, u8); 2] = [(2, 0x9), (0, 0xF)];
+
 fn check_values(card: &mut Card) {
-    for (byte, check) in [(0x00, 0xF), (0x01, 0xC), (0x80, 0x1), (0xFF, 0xB), (0x5A, 0x0)] {
+    for (byte, check) in BYTES {
         card.same(&format!("check of byte {byte:02X}"), check_bits(byte, BYTE_BITS), check);
     }
-    let headers = [(0, 0x00, 0x6), (0, 0x44, 0xD), (1, 0x41, 0xC), (0, 0x7C, 0x9), (7, 0x7F, 0x0)];
-    for (id, address, check) in headers {
+    for (id, address, check) in ACCESSES {
         let got = check_bits(register_word(id, address), HEADER_BITS);
         card.same(&format!("check of ID {id} address {address:02X}"), got, check);
     }
-    for (cmd, check) in [(2, 0x9), (0, 0xF)] {
+    for (cmd, check) in BROADCASTS {
         let got = check_bits(command_word(0, cmd), HEADER_BITS);
         card.same(&format!("check of broadcast CMD {cmd}"), got, check);
     }
