@@ -3,31 +3,26 @@ use mathlib.Core.Path.{_≡_, refl}
 use mathlib.Core.Bool.{Bool, true, false, cond}
 use Prim.Native.Nat.{ℕ, zero, suc, _+_, _-_, _*_, _/_, _%_, _^_, _<_}
 use native.Mathlib.Numerals.{sub-one}
-use native.Mathlib.Omega.{arith}
-use borrow.Author.Tests.{ltb-true}
 use mir.Val.{boolByte}
 use lib.Bits.{bitXor}
 use lib.Dec.{eqb, ltb}
 use Rattle.protocol.specs.Bits.{bit}
 use Rattle.protocol.specs.Division.{checkWidth, polynomial, divideBit, divide}
-use Rattle.laws.proofs.Table.{below}
+use Rattle.protocol.proofs.Division.{divide-bit-lt}
 
 -- The remainder one place up, the bit added to its leading bit ..
 abbrev raised : ℕ → Bool → ℕ
 raised r x = (2 * r + 16 * boolByte x) % 32
 
--- .. and what remains of that word, the polynomial taken out where it goes in: four bits, by a test at each word.
+-- .. and what remains of that word, the polynomial taken out where it goes in.
 abbrev remains : ℕ → ℕ
 remains w = cond (ltb w 16) w (bitXor w polynomial)
 
-remains-lt : (w : ℕ) → w < 32 → remains w < 16
-remains-lt w h = ltb-true _ _ (below 32 (λ w. ltb (remains w) 16) refl w h)
-
-pub one-bit : (r : ℕ) (x : Bool)
+pub one-bit : (r : ℕ) (x : Bool) → r < 16
     → (remains (raised r x) ≡ divideBit checkWidth polynomial r x) × (remains (raised r x) < 16)
 unfolding divideBit
-one-bit r true = (refl, remains-lt (raised r true) (omega arith))
-one-bit r false = (refl, remains-lt (raised r false) (omega arith))
+one-bit r true h = (refl, divide-bit-lt r true h)
+one-bit r false h = (refl, divide-bit-lt r false h)
 
 -- Where bits are left, the division takes the highest of them and then the rest.
 pub then-the-rest : (width p left v r : ℕ) → (left ≡ 0 → ⊥)

@@ -77,15 +77,15 @@ check-low n v =
 bitBelow : Bool → ℕ → Bool
 bitBelow x r = ltb (divideBit checkWidth polynomial r x) (2 ^ checkWidth)
 
-divide-bit-lt : (r : ℕ) → r < 2 ^ checkWidth → (x : Bool) → bitBelow x r ≡ true
+pub divide-bit-lt : (r : ℕ) (x : Bool) → r < 2 ^ checkWidth → divideBit checkWidth polynomial r x < 2 ^ checkWidth
 unfolding bitBelow divideBit
-divide-bit-lt r h true = below (2 ^ checkWidth) (bitBelow true) refl r h
-divide-bit-lt r h false = below (2 ^ checkWidth) (bitBelow false) refl r h
+divide-bit-lt r true h = ltb-true _ _ (below (2 ^ checkWidth) (bitBelow true) refl r h)
+divide-bit-lt r false h = ltb-true _ _ (below (2 ^ checkWidth) (bitBelow false) refl r h)
 
 divide-lt : (n v r : ℕ) → r < 2 ^ checkWidth → divide checkWidth polynomial n v r < 2 ^ checkWidth
-unfolding divide bitBelow
+unfolding divide
 divide-lt zero v r h = h
-divide-lt (suc n) v r h = divide-lt n v _ (ltb-true _ _ (divide-bit-lt r h (bit n v)))
+divide-lt (suc n) v r h = divide-lt n v _ (divide-bit-lt r (bit n v) h)
 
 pub remainder-lt : (n v : ℕ) → remainder n v < 2 ^ checkWidth
 unfolding remainder

@@ -14,10 +14,10 @@ add-raised : tie.Need-add-raised
 add-raised c = omega (arith, bool-lt (c .args .bit))
 
 returns : tie.Need-returns
-returns c = rw (lt-ltb _ _ (c .if1 .taken)) at (one-bit (c .before .args .remainder) (c .before .args .bit))
+returns c = rw (lt-ltb _ _ (c .if1 .taken)) at (one-bit _ (c .before .args .bit) (c .before .pre))
 
 returns-2 : tie.Need-returns-2
-returns-2 c = rw (le-ltb _ _ (c .if1 .left)) at (one-bit (c .before .args .remainder) (c .before .args .bit))
+returns-2 c = rw (le-ltb _ _ (c .if1 .left)) at (one-bit _ (c .before .args .bit) (c .before .pre))
 
 pub divided-bit-spec : {M : Type 1} → statement M
 divided-bit-spec = tie.close (tie.spec (λ c. search needs) (λ c. search needs) mul-raised-2 add-raised returns returns-2)
