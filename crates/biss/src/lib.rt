@@ -68,15 +68,16 @@ pub extern "C" fn biss_build_command(ids: u8, cmd: u8, out: &mut [u8]) -> u64
 #[no_mangle]
 pub extern "C" fn biss_run(
     slaves: usize,
+    banks: &[u8],
     rights: &[u8],
     waits: &[u8],
     registers: &mut [u8],
     cdm: &[u8],
     cds: &mut [u8],
 ) -> u64
-    ensures { λ r. ⌜ Coded r (λ o. Ran slaves (now (rights .entry)) (now (waits .entry)) (now (registers .entry)) (now (cdm .entry)) (now (cds .entry)) o (now (registers .exit)) (now (cds .exit))) ⌝ }
+    ensures { λ r. ⌜ Coded r (λ o. Ran slaves (now (banks .entry)) (now (rights .entry)) (now (waits .entry)) (now (registers .entry)) (now (cdm .entry)) (now (cds .entry)) o (now (registers .exit)) (now (cds .exit))) ⌝ }
 {
-    coded(run::run(slaves, rights, waits, registers, cdm, cds))
+    coded(run::run(slaves, banks, rights, waits, registers, cdm, cds))
 }
 
 // The entries that two recorded rows show, from an opening column on.

@@ -4,7 +4,7 @@ use mathlib.Core.List.{List, [], _∷_, map}
 use Prim.Native.Nat.{ℕ, _+_, _-_}
 use lib.Dec.{ltb, eqb}
 use lib.ListN.{length}
-use Rattle.protocol.specs.Limits.{columnLimit, idCount, registerCount, byteLimit}
+use Rattle.protocol.specs.Limits.{columnLimit, idCount, addressCount, byteLimit}
 use Rattle.protocol.specs.Bits.{num}
 use Rattle.protocol.specs.Building.{Request, read, write, command, rowFor}
 use Rattle.job.specs.Refusals.{Rule, when, lent, Ended}
@@ -13,8 +13,8 @@ use Rattle.job.specs.declared.Outcome.{Outcome}
 -- Refusal 10: "id over 7, address over 127, .. count 0 or over 64, or address + count over 128".
 unfoldable pub outsideAccess : (id address count : ℕ) → Bool
 outsideAccess id address count =
-    ltb (idCount - 1) id || ltb (registerCount - 1) address || eqb count 0 || ltb byteLimit count
-    || ltb registerCount (address + count)
+    ltb (idCount - 1) id || ltb (addressCount - 1) address || eqb count 0 || ltb byteLimit count
+    || ltb addressCount (address + count)
 
 -- Refusal 10, of a command: "CMD over 3".
 unfoldable pub outside : Request → Bool

@@ -26,7 +26,7 @@ const LAST_COMMAND: u8 = 3;
 
 const BYTES: usize = 64;
 
-const REGISTERS: usize = 128;
+const ADDRESSES: usize = 128;
 
 // "Reading n bytes takes 32 + 14n columns, writing n lent bytes likewise, a command 30" (01, Building), and S again where a byte waits.
 const ACCESS: usize = 32;
@@ -144,7 +144,7 @@ fn outside(id: u8, address: u8, count: usize) -> bool
         return true;
     }
     let end = address as usize + count;
-    REGISTERS < end
+    ADDRESSES < end
 }
 
 // Fourteen zeros, S, the header, R and W; returns the column behind them.

@@ -1,7 +1,7 @@
 -- What an accepted run leaves: its answer row, that its two rows are rows to read, and what protocol demands of their list.
 -- Assumes nothing.
 use mathlib.Core.Path.{_≡_, refl, sym, ap, _∙_}
-use mathlib.Core.Bool.{true}
+use mathlib.Core.Bool.{true, false}
 use mathlib.Core.List.{List, map}
 use mathlib.Core.Option.{none}
 use Prim.Native.Nat.{ℕ, _*_, _≤_}
@@ -12,7 +12,8 @@ use Rattle.protocol.specs.Memory.{Memory}
 use Rattle.protocol.specs.Chain.{switchedOn, answersFrom, memoriesAfter}
 use Rattle.protocol.specs.Reader.{columns, listFrom}
 use Rattle.protocol.specs.Account.{account}
-use Rattle.protocol.specs.Replay.{replay, Shows}
+use Rattle.protocol.specs.Banks.{bare}
+use Rattle.protocol.specs.Replay.{replay, Shows, Rightful, BanksStand}
 use Rattle.protocol.proofs.Memories.{Bytes}
 use Rattle.protocol.proofs.Rows.{answers-length}
 use Rattle.protocol.proofs.Demands as protocol
@@ -23,6 +24,7 @@ use Rattle.job.proofs.Bits.{num-bits}
 use Rattle.job.proofs.Refusals.{was-made, laid-whole}
 use Rattle.job.proofs.Rows.{not-wrong}
 use Rattle.run.specs.Run.{memoriesOf, registersOf, refusals, Ran}
+use Rattle.run.specs.Parts.{Holds}
 use Rattle.run.proofs.Rows.{row-num}
 use Rattle.run.proofs.Ends.{held, short-row, same-rows, master-bits}
 use Rattle.read.specs.Read as Read
@@ -32,16 +34,19 @@ use Rattle.read.specs.Read.{rowsRefusals, listOf}
 use Rattle.read.proofs.Left.{length-listed}
 use Rattle.read.proofs.Ends.{rows-good, not-refused}
 use Rattle.demands.specs.Lent.{areBytes}
-use Rattle.demands.proofs.Chains.{memories-bytes, registers-back, replay-length}
+use Rattle.demands.proofs.Chains.{memories-bytes, memories-paired, registers-back, replay-length}
 
-module _ {slaves c : ℕ} {rights waits registers cdm cds registers′ cds′ : List ℕ}
-    (ran : Ran slaves rights waits registers cdm cds (Made c) registers′ cds′) where
+module _ {slaves c : ℕ} {table rights waits registers cdm cds registers′ cds′ : List ℕ}
+    (ran : Ran slaves table rights waits registers cdm cds (Made c) registers′ cds′) where
   -- The chain's memories as they were lent.
   abbrev chain : List Memory
-  chain = memoriesOf slaves registers rights waits
+  chain = memoriesOf table registers rights waits
 
-  through : first (refusals slaves (length registers) rights (length waits) cdm (length cds)) ≡ none
+  through : first (refusals slaves table (length registers) rights (length waits) cdm (length cds)) ≡ none
   through = was-made (ran .ends) .0
+
+  holds : Holds table registers rights waits
+  holds = held slaves table registers rights waits cdm cds through
 
   answers-long : length (map num (answersFrom chain (rowOf cdm))) ≡ length cdm
   unfolding answersFrom rowOf
@@ -52,7 +57,7 @@ module _ {slaves c : ℕ} {rights waits registers cdm cds registers′ cds′ : 
   pub row-bytes : cds′ ≡ map num (answersFrom chain (rowOf cdm))
   row-bytes =
       let row-after : cds′ ≡ lentAfter none (lent (map num (answersFrom chain (rowOf cdm))) cds) = cc (was-made (ran .ends) .2) in
-      row-after ∙ sym (laid-whole _ cds (answers-long ∙ sym (same-rows slaves registers rights waits cdm cds through)))
+      row-after ∙ sym (laid-whole _ cds (answers-long ∙ sym (same-rows slaves table registers rights waits cdm cds through)))
 
   row-answers : rowOf cds′ ≡ answersFrom chain (rowOf cdm)
   row-answers = ap rowOf row-bytes ∙ row-num (answersFrom chain (rowOf cdm))
@@ -64,9 +69,9 @@ module _ {slaves c : ℕ} {rights waits registers cdm cds registers′ cds′ : 
   rows-right : (k : ℕ) → k ≤ length cdm → first (rowsRefusals cdm cds′ k) ≡ none
   rows-right k h =
       let right : first (wrongRows cdm cds′) ≡ none = not-wrong cdm cds′ (record {
-        short = short-row slaves registers rights waits cdm cds through;
+        short = short-row slaves table registers rights waits cdm cds through;
         same = sym row-long;
-        cdm-bits = master-bits slaves registers rights waits cdm cds through;
+        cdm-bits = master-bits slaves table registers rights waits cdm cds through;
         cds-bits = rw row-bytes (num-bits (answersFrom chain (rowOf cdm)));
       }) in
       sym (rows-good cdm cds′ k {why = 0} (sym right) refl h)
@@ -84,25 +89,35 @@ module _ {slaves c : ℕ} {rights waits registers cdm cds registers′ cds′ : 
   -- Line's demands, of that list: it is the account, ..
   module _ (bytes : areBytes registers ≡ true) where
     chain-bytes : Bytes chain
-    chain-bytes = memories-bytes slaves registers rights waits bytes
+    chain-bytes = memories-bytes table registers rights waits bytes
 
     pub row-account : listOf 0 cdm cds′ ≡ account chain (rowOf cdm)
     row-account = row-list ∙ protocol.list-is-account chain (rowOf cdm) chain-bytes
 
     -- .. its reads show what stood there, ..
-    pub row-shows : Shows chain (listOf 0 cdm cds′)
+    pub row-shows : Shows chain (bare (listOf 0 cdm cds′))
     row-shows = rw row-list (protocol.reads-show chain (rowOf cdm) chain-bytes)
 
+    -- .. its writes went where they were allowed, and the banks that it names were those of the bank registers, ..
+    pub row-rightful : Rightful chain (bare (listOf 0 cdm cds′))
+    row-rightful = rw row-list (protocol.writes-rightful chain (rowOf cdm) chain-bytes)
+
+    pub row-banks : BanksStand (λ id. false) chain (listOf 0 cdm cds′)
+    row-banks =
+        rw row-list
+        (protocol.banks-named chain (rowOf cdm) chain-bytes
+        (memories-paired table registers rights waits (holds .all-rights ∙ sym (holds .all-registers))))
+
     -- .. and its replay gives the lent registers, all of them, as run left them.
-    row-final : replay chain (listOf 0 cdm cds′) ≡ memoriesAfter chain (rowOf cdm)
+    row-final : replay chain (bare (listOf 0 cdm cds′)) ≡ memoriesAfter chain (rowOf cdm)
     row-final = rw row-list (protocol.replay-is-final chain (rowOf cdm) chain-bytes)
 
-    pub row-replay : registersOf (replay chain (listOf 0 cdm cds′)) ≡ registers′
+    pub row-replay : registersOf (replay chain (bare (listOf 0 cdm cds′))) ≡ registers′
     row-replay =
         let as-lent : registersOf chain ≡ registers
-        = registers-back slaves registers rights waits (held slaves registers rights waits cdm cds through .all-registers) in
+        = registers-back table registers rights waits (holds .all-registers) in
         let long : length (registersOf (memoriesAfter chain (rowOf cdm))) ≡ length registers
-        = rw (← row-final) (replay-length chain (listOf 0 cdm cds′) ∙ ap length as-lent) in
+        = rw (← row-final) (replay-length chain (bare (listOf 0 cdm cds′)) ∙ ap length as-lent) in
         let registers-after : registers′ ≡ lentAfter none (lent (registersOf (memoriesAfter chain (rowOf cdm))) registers)
         = cc (was-made (ran .ends) .2) in
         ap registersOf row-final ∙ laid-whole _ registers long ∙ sym registers-after

@@ -1,79 +1,89 @@
--- A chain's lent registers and its memories: bytes, there and back, as many after a replay, and alike where they may be read; and lent
--- waits of 0. Assumes nothing.
+-- A chain's lent registers and its memories: bytes, as many as rights, there and back, as many after a replay, and alike where they may be
+-- read; and lent waits of 0. Assumes nothing.
 use mathlib.Core.Path.{_≡_, refl, _∙_}
 use mathlib.Core.Bool.{true}
-use mathlib.Core.List.{List, [], _∷_}
+use mathlib.Core.List.{List, [], _∷_, head-eq-of-cons-eq, tail-eq-of-cons-eq}
 use Prim.Native.Nat.{ℕ, zero, suc, _+_, _*_, _^_, _≤_, _<_}
 use native.Mathlib.Omega.{arith}
 use borrow.Author.Tests.{ltb-true, ltb-false}
 use lib.Dec.{ltb}
-use lib.ListN.{length, take, drop, getD, take-append-drop, length-append, length-take, length-drop, length-set, List·getD-eq-default}
+use lib.ListN.{length, take, drop, getD, take-append-drop, length-append, length-take, length-drop, List·getD-eq-default}
 use lib.Seq.{getD-take, getD-drop}
-use Rattle.protocol.specs.Limits.{registerCount}
+use Rattle.protocol.specs.Limits.{bankSize}
 use Rattle.protocol.specs.Division.{dataBits}
-use Rattle.protocol.specs.Memory.{Memory, allows, holds, stored, delay}
-use Rattle.protocol.specs.Entries.{Kind, Event, Entry}
-use Rattle.protocol.specs.Replay.{storedAt, is, put, replay}
+use Rattle.protocol.specs.Memory.{Memory, chosen, delay}
+use Rattle.protocol.specs.Entries.{Kind, is, Event, Entry}
+use Rattle.protocol.specs.Replay.{storedAt, put, replay}
 use Rattle.laws.proofs.Every.{Every, tested}
-use Rattle.protocol.proofs.Memories.{Bytes}
+use Rattle.protocol.proofs.Memories.{Bytes, stored-size}
+use Rattle.protocol.proofs.Rightful.{Paired}
 use Rattle.protocol.proofs.Twins.{Like, Alike}
 use Rattle.protocol.proofs.Waits.{Prompt}
 use Rattle.job.proofs.Bits.{byte-at}
-use Rattle.run.specs.Run.{memoriesOf, registersOf}
-use Rattle.demands.specs.Lent.{areBytes, noneWaits, mayRead, DifferUnread}
+use Rattle.run.specs.Run.{sizeOf, sizes, memoriesOf, registersOf}
+use Rattle.demands.specs.Lent.{areBytes, noneWaits, mayRead, DifferUnread, bankRegisters}
 
 -- A slave's own bytes are the buffer's, and past them nothing stands.
-module _ (bytes : List ℕ) (address : ℕ) where
-  own : address < registerCount → getD (take registerCount bytes) address 0 ≡ getD bytes address 0
-  own h = getD-take registerCount bytes address 0 h
+module _ (size : ℕ) (bytes : List ℕ) (place : ℕ) where
+  own : place < size → getD (take size bytes) place 0 ≡ getD bytes place 0
+  own h = getD-take size bytes place 0 h
 
-  past-own : registerCount ≤ address → getD (take registerCount bytes) address 0 ≡ 0
-  past-own h = List·getD-eq-default (take registerCount bytes) 0 (omega (arith, length-take registerCount bytes))
+  past-own : size ≤ place → getD (take size bytes) place 0 ≡ 0
+  past-own h = List·getD-eq-default (take size bytes) 0 (omega (arith, length-take size bytes))
 
 -- Registers lent as bytes are bytes in every memory.
-all-bytes : (n : ℕ) (registers rights waits : List ℕ) → ((place : ℕ) → getD registers place 0 < 2 ^ dataBits)
-    → Bytes (memoriesOf n registers rights waits)
-unfolding memoriesOf holds
-all-bytes zero registers rights waits h = tt
-all-bytes (suc n) registers rights waits h = (
-  λ address. tested (ltb address registerCount)
-      (λ q. rw (own registers address (ltb-true _ _ q)) (h address))
-      (λ q. rw (past-own registers address (ltb-false _ _ q)) (omega arith)),
-  all-bytes n (drop registerCount registers) (drop registerCount rights) (drop 1 waits) (λ place. rw getD-drop (h (registerCount + place))),
+all-bytes : (table registers rights waits : List ℕ) → ((place : ℕ) → getD registers place 0 < 2 ^ dataBits)
+    → Bytes (memoriesOf table registers rights waits)
+unfolding memoriesOf
+all-bytes [] registers rights waits h = tt
+all-bytes (b ∷ table) registers rights waits h = (
+  λ place. tested (ltb place (sizeOf b))
+      (λ q. rw (own (sizeOf b) registers place (ltb-true _ _ q)) (h place))
+      (λ q. rw (past-own (sizeOf b) registers place (ltb-false _ _ q)) (omega arith)),
+  all-bytes table (drop (sizeOf b) registers) (drop (sizeOf b) rights) (drop 1 waits) (λ place. rw getD-drop (h (sizeOf b + place))),
 )
 
-pub memories-bytes : (n : ℕ) (registers rights waits : List ℕ) → areBytes registers ≡ true → Bytes (memoriesOf n registers rights waits)
+pub memories-bytes : (table registers rights waits : List ℕ) → areBytes registers ≡ true → Bytes (memoriesOf table registers rights waits)
 unfolding areBytes
-memories-bytes n registers rights waits e = all-bytes n registers rights waits (λ place. omega (arith, byte-at _ registers place e))
+memories-bytes table registers rights waits e = all-bytes table registers rights waits (λ place. omega (arith, byte-at _ registers place e))
 
 -- Slaves lent with waits of 0 do not wait.
-none-wait : (n : ℕ) (registers rights waits : List ℕ) → ((place : ℕ) → getD waits place 0 ≡ 0)
-    → Every Prompt (memoriesOf n registers rights waits)
+none-wait : (table registers rights waits : List ℕ) → ((place : ℕ) → getD waits place 0 ≡ 0)
+    → Every Prompt (memoriesOf table registers rights waits)
 unfolding memoriesOf
-none-wait zero registers rights waits h = tt
-none-wait (suc n) registers rights waits h =
-    (h 0, none-wait n (drop registerCount registers) (drop registerCount rights) (drop 1 waits) (λ place. rw getD-drop (h (1 + place))))
+none-wait [] registers rights waits h = tt
+none-wait (b ∷ table) registers rights waits h =
+    (h 0, none-wait table (drop (sizeOf b) registers) (drop (sizeOf b) rights) (drop 1 waits) (λ place. rw getD-drop (h (1 + place))))
 
-pub memories-prompt : (n : ℕ) (registers rights waits : List ℕ) → noneWaits waits ≡ true → Every Prompt (memoriesOf n registers rights waits)
+pub memories-prompt : (table registers rights waits : List ℕ) → noneWaits waits ≡ true
+    → Every Prompt (memoriesOf table registers rights waits)
 unfolding noneWaits
-memories-prompt n registers rights waits e = none-wait n registers rights waits (λ place. omega (arith, byte-at _ waits place e))
+memories-prompt table registers rights waits e = none-wait table registers rights waits (λ place. omega (arith, byte-at _ waits place e))
+
+-- As many rights as registers, of all slaves and so of each.
+pub memories-paired : (table registers rights waits : List ℕ) → length rights ≡ length registers
+    → Every Paired (memoriesOf table registers rights waits)
+unfolding memoriesOf
+memories-paired [] registers rights waits e = tt
+memories-paired (b ∷ table) registers rights waits e =
+    (simp (length-take, e), memories-paired table (drop (sizeOf b) registers) (drop (sizeOf b) rights) (drop 1 waits) (simp (length-drop, e)))
 
 -- The registers of all memories are the lent ones.
-pub registers-back : (n : ℕ) (registers rights waits : List ℕ) → length registers ≡ registerCount * n
-    → registersOf (memoriesOf n registers rights waits) ≡ registers
-unfolding memoriesOf registersOf
-registers-back zero [] rights waits e = refl
-registers-back zero (r ∷ registers) rights waits e = absurd (omega arith)
-registers-back (suc n) registers rights waits e =
-    rw (registers-back n (drop registerCount registers) (drop registerCount rights) (drop 1 waits) (rw length-drop (omega arith)))
-    (take-append-drop registerCount registers)
+pub registers-back : (table registers rights waits : List ℕ) → length registers ≡ sizes table
+    → registersOf (memoriesOf table registers rights waits) ≡ registers
+unfolding memoriesOf registersOf sizes
+registers-back [] [] rights waits e = refl
+registers-back [] (r ∷ registers) rights waits e = absurd (omega arith)
+registers-back (b ∷ table) registers rights waits e =
+    rw (registers-back table (drop (sizeOf b) registers) (drop (sizeOf b) rights) (drop 1 waits) (rw length-drop (omega arith)))
+    (take-append-drop (sizeOf b) registers)
 
 -- A replay leaves as many registers.
 stored-length : (ks : List Memory) (id address value : ℕ)
     → length (registersOf (storedAt ks id address value)) ≡ length (registersOf ks)
-unfolding storedAt stored registersOf
+unfolding storedAt registersOf
 stored-length [] id address value = refl
-stored-length (k ∷ ks) zero address value = simp (length-append, length-set)
+stored-length (k ∷ ks) zero address value = simp (length-append, stored-size k address value)
 stored-length (k ∷ ks) (suc id) address value = simp (length-append, stored-length ks id address value)
 
 put-length : (ks : List Memory) (e : Event) → length (registersOf (put ks e)) ≡ length (registersOf ks)
@@ -86,32 +96,42 @@ unfolding replay
 replay-length ks [] = refl
 replay-length ks (e ∷ es) = replay-length (put ks (e .event)) es ∙ put-length ks (e .event)
 
--- Registers that differ only where nothing may be read make memories that are alike.
-module _ {rights registers registers′ : List ℕ} (differ : DifferUnread rights registers registers′) where
-  first-alike : (wait : ℕ) → Like (record { registers = take registerCount registers; rights = take registerCount rights; wait = wait })
-      (record { registers = take registerCount registers′; rights = take registerCount rights; wait = wait })
-  unfolding allows holds delay mayRead
-  first-alike wait =
+-- Registers that differ only where nothing may be read, and not in a bank register, make memories that are alike.
+module _ {rights registers registers′ : List ℕ} (differ : DifferUnread rights registers registers′) (b : ℕ) where
+  first-alike : (wait : ℕ) → getD registers (bankSize * b) 0 ≡ getD registers′ (bankSize * b) 0
+      → Like (record { banks = b; registers = take (sizeOf b) registers; rights = take (sizeOf b) rights; wait = wait })
+      (record { banks = b; registers = take (sizeOf b) registers′; rights = take (sizeOf b) rights; wait = wait })
+  unfolding chosen delay mayRead
+  first-alike wait same =
       record {
-        rights = λ write address. refl;
+        banks = refl;
+        rights = refl;
         delays = λ write nth. refl;
         size = simp (length-take, differ .as-many);
-        readable = λ address h. tested (ltb address registerCount)
+        bank =
+            let inside : bankSize * b < sizeOf b = omega arith in
+            rw (own (sizeOf b) registers (bankSize * b) inside, own (sizeOf b) registers′ (bankSize * b) inside) same;
+        readable = λ place h. tested (ltb place (sizeOf b))
             (λ q. let inside = ltb-true _ _ q in
-            rw (own registers address inside, own registers′ address inside) (differ .readable address (rw (own rights address inside) at h)))
-            (λ q. let past = ltb-false _ _ q in rw (past-own registers address past, past-own registers′ address past));
+            rw (own (sizeOf b) registers place inside, own (sizeOf b) registers′ place inside)
+            (differ .readable place (rw (own (sizeOf b) rights place inside) at h)))
+            (λ q. let past = ltb-false _ _ q in rw (past-own (sizeOf b) registers place past, past-own (sizeOf b) registers′ place past));
       }
 
-  differ-behind : DifferUnread (drop registerCount rights) (drop registerCount registers) (drop registerCount registers′)
+  differ-behind : DifferUnread (drop (sizeOf b) rights) (drop (sizeOf b) registers) (drop (sizeOf b) registers′)
   unfolding mayRead
   differ-behind =
       record {
         as-many = simp (length-drop, differ .as-many);
-        readable = λ place h. simp getD-drop (differ .readable (registerCount + place) (rw getD-drop at h));
+        readable = λ place h. simp getD-drop (differ .readable (sizeOf b + place) (rw getD-drop at h));
       }
 
-pub all-alike : (n : ℕ) {rights registers registers′ : List ℕ} (waits : List ℕ) → DifferUnread rights registers registers′
-    → Alike (memoriesOf n registers rights waits) (memoriesOf n registers′ rights waits)
-unfolding memoriesOf
-all-alike zero waits differ = tt
-all-alike (suc n) waits differ = (first-alike differ (getD waits 0 0), all-alike n (drop 1 waits) (differ-behind differ))
+pub all-alike : (table : List ℕ) {rights registers registers′ : List ℕ} (waits : List ℕ) → DifferUnread rights registers registers′
+    → bankRegisters table registers ≡ bankRegisters table registers′
+    → Alike (memoriesOf table registers rights waits) (memoriesOf table registers′ rights waits)
+unfolding memoriesOf bankRegisters
+all-alike [] waits differ same = tt
+all-alike (b ∷ table) waits differ same = (
+  first-alike differ b (getD waits 0 0) (head-eq-of-cons-eq same),
+  all-alike table (drop 1 waits) (differ-behind differ b) (tail-eq-of-cons-eq same),
+)

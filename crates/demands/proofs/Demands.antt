@@ -13,8 +13,9 @@ use Rattle.protocol.specs.Limits.{restZeros}
 use Rattle.protocol.specs.Bits.{num, rowOf}
 use Rattle.protocol.specs.Layout.{current, entryBytes, listBytes, entriesIn, isList}
 use Rattle.protocol.specs.Account.{account}
-use Rattle.protocol.specs.Replay.{replay, Shows}
-use Rattle.protocol.specs.Late.{FirstFourteen, NoFourteen, fromColumn, Started}
+use Rattle.protocol.specs.Banks.{bare}
+use Rattle.protocol.specs.Replay.{replay, Shows, Rightful, BanksStand}
+use Rattle.protocol.specs.Late.{FirstFourteen, NoFourteen, fromColumn, Agrees, Started}
 use Rattle.protocol.specs.Text.{rowsText, listText, has, badLine, cdmOf, cdsOf}
 use Rattle.protocol.specs.Fault.{placeOf, formAt, faultLine}
 use Rattle.protocol.proofs.Codec.{bytes-list}
@@ -32,47 +33,56 @@ use Rattle.print.proofs.Ends.{was-printed}
 use Rattle.list_text.specs.Lists.{ListPrinted}
 use Rattle.list_text.proofs.Lists.{list-none}
 use Rattle.rows_text.specs.RowsText.{RowsPrinted, RowsTaken}
-use Rattle.demands.specs.Lent.{areBytes, listIn, kindAt, placeAt, Reopened, isBreach, noneWaits, DifferUnread}
+use Rattle.demands.specs.Lent.{areBytes, listIn, kindAt, placeAt, Reopened, isBreach, noneWaits, DifferUnread, bankRegisters}
 use Rattle.demands.proofs.Chains.{memories-prompt, all-alike}
 use Rattle.demands.proofs.Lists as list
 use Rattle.demands.proofs.Lists.{list-count, list-bytes, list-entries, list-empty, list-late, list-never, kind-at}
-use Rattle.demands.proofs.Answers.{row-bytes, rows-read, row-account, row-shows, row-replay}
+use Rattle.demands.proofs.Answers.{row-bytes, rows-read, row-account, row-shows, row-rightful, row-banks, row-replay}
 use Rattle.demands.proofs.Texts.{rows-taken, was-told, printed-back, printed-taken}
 
 -- A run that was accepted, on registers lent as bytes, and the list that read made of the master row and the answer row alone.
-module _ {slaves c n : ℕ} {rights waits registers cdm cds registers′ cds′ lent after : List ℕ} (bytes : areBytes registers ≡ true)
-    (ran : Ran slaves rights waits registers cdm cds (Made c) registers′ cds′) (listed : Listed cdm cds′ 0 lent (Made n) after) where
+module _ {slaves c n : ℕ} {table rights waits registers cdm cds registers′ cds′ lent after : List ℕ} (bytes : areBytes registers ≡ true)
+    (ran : Ran slaves table rights waits registers cdm cds (Made c) registers′ cds′) (listed : Listed cdm cds′ 0 lent (Made n) after) where
   -- "The list read from the two rows alone is the chain's own account, entry for entry": as many entries, and every byte of them.
-  pub list-is-account : (n ≡ length (account (memoriesOf slaves registers rights waits) (rowOf cdm)))
-      × (listIn n after ≡ listBytes current (account (memoriesOf slaves registers rights waits) (rowOf cdm)))
+  pub list-is-account : (n ≡ length (account (memoriesOf table registers rights waits) (rowOf cdm)))
+      × (listIn n after ≡ listBytes current (account (memoriesOf table registers rights waits) (rowOf cdm)))
   list-is-account = (list-count listed ∙ ap length (row-account ran bytes), list-bytes listed ∙ ap (listBytes current) (row-account ran bytes))
 
-  -- "Its writes replayed on the starting registers give the final registers": those that run left.
-  pub replay-is-final : registersOf (replay (memoriesOf slaves registers rights waits) (entriesIn current (listIn n after))) ≡ registers′
+  -- "Its writes replayed on the starting registers give the final registers": those that run left. Request 05: "demand 3's replay uses the
+  -- replayed bank register".
+  pub replay-is-final : registersOf (replay (memoriesOf table registers rights waits) (bare (entriesIn current (listIn n after)))) ≡ registers′
   replay-is-final = rw (list-entries listed) (row-replay ran bytes)
 
   -- "Each read shows the byte that stood there then": in the replay of the entries before it.
-  pub reads-show : Shows (memoriesOf slaves registers rights waits) (entriesIn current (listIn n after))
+  pub reads-show : Shows (memoriesOf table registers rights waits) (bare (entriesIn current (listIn n after)))
   reads-show = rw (list-entries listed) (row-shows ran bytes)
+
+  -- Each `written` went to a slave that holds its ID and allows it at that address ..
+  pub writes-rightful : Rightful (memoriesOf table registers rights waits) (bare (entriesIn current (listIn n after)))
+  writes-rightful = rw (list-entries listed) (row-rightful ran bytes)
+
+  -- .. and so the bank that the list names after a `written` of an ID's bank register is the one that this register names then.
+  pub banks-named : BanksStand (λ id. false) (memoriesOf table registers rights waits) (entriesIn current (listIn n after))
+  banks-named = rw (list-entries listed) (row-banks ran bytes)
 
   -- No entry of the list is of a kind 2, 8, 12 or 14: only damaged rows show a breach ..
   pub no-breaches : (place : ℕ) → place < n → isBreach (kindAt (listIn n after) place) ≡ false
   unfolding isBreach
   no-breaches place h =
       rw (list-is-account .1)
-      (kind-at (λ kind. isBreach kind ≡ false) (account (memoriesOf slaves registers rights waits) (rowOf cdm)) place
+      (kind-at (λ kind. isBreach kind ≡ false) (account (memoriesOf table registers rights waits) (rowOf cdm)) place
       (protocol.no-breaches _ (rowOf cdm)) (omega (arith, list-is-account .0)))
 
   -- .. and none is a `mute`, 9, where no slave waits.
   pub no-mute : noneWaits waits ≡ true → (place : ℕ) → place < n → eqb (kindAt (listIn n after) place) 9 ≡ false
   no-mute prompt place h =
       rw (list-is-account .1)
-      (kind-at (λ kind. eqb kind 9 ≡ false) (account (memoriesOf slaves registers rights waits) (rowOf cdm)) place
-      (protocol.no-mute _ (rowOf cdm) (memories-prompt slaves registers rights waits prompt)) (omega (arith, list-is-account .0)))
+      (kind-at (λ kind. eqb kind 9 ≡ false) (account (memoriesOf table registers rights waits) (rowOf cdm)) place
+      (protocol.no-mute _ (rowOf cdm) (memories-prompt table registers rights waits prompt)) (omega (arith, list-is-account .0)))
 
 -- Every accepted run has such a list: read refuses its two rows from no opening column in them, if an entry has room for each column.
-pub run-is-read : {slaves c k : ℕ} {rights waits registers cdm cds registers′ cds′ lent after : List ℕ} {outcome : Outcome}
-    → Ran slaves rights waits registers cdm cds (Made c) registers′ cds′ → Listed cdm cds′ k lent outcome after
+pub run-is-read : {slaves c k : ℕ} {table rights waits registers cdm cds registers′ cds′ lent after : List ℕ} {outcome : Outcome}
+    → Ran slaves table rights waits registers cdm cds (Made c) registers′ cds′ → Listed cdm cds′ k lent outcome after
     → k ≤ length cdm → entryBytes current * length cdm ≤ length lent → outcome ≡ Made (length (listOf k cdm cds′))
 run-is-read {k} {lent} ran listed opening room =
     ended-none (listed .ends) (rows-read ran k lent opening room)
@@ -80,12 +90,11 @@ run-is-read {k} {lent} ran listed opening room =
 -- The list that read made of any two rows, let in at column k.
 module _ {cdm cds lent after : List ℕ} {k n : ℕ} (listed : Listed cdm cds k lent (Made n) after) where
   -- "A reader let in at column k lists exactly the full list's entries after the first run of fourteen master zeros" lying wholly at or
-  -- after k: they begin at column j, and the full list is the one that read makes from column 0 ..
+  -- after k: they begin at column j, and the full list is the one that read makes from column 0. Request 05: it "agrees in all but the bank,
+  -- and there too after a `written` of that ID's bank register in its own list" ..
   pub late-opening : {lent′ whole : List ℕ} {m j : ℕ} → Listed cdm cds 0 lent′ (Made m) whole → FirstFourteen (rowOf cdm) k j
-      → listIn n after ≡ listBytes current (fromColumn (j + restZeros) (entriesIn current (listIn m whole)))
-  late-opening {j} full first =
-      list-bytes listed
-      ∙ ap (listBytes current) (list-late listed first ∙ ap (fromColumn (j + restZeros)) (sym (list-entries full)))
+      → Agrees (entriesIn current (listIn n after)) (fromColumn (j + restZeros) (entriesIn current (listIn m whole)))
+  late-opening full first = rw (list-entries listed, list-entries full) (list-late listed first)
 
   -- .. "or nothing if there is none": no entry, and no byte of the lent buffer changed.
   pub late-nothing : NoFourteen (rowOf cdm) k → (n ≡ 0) × (after ≡ lent)
@@ -96,7 +105,7 @@ module _ {cdm cds lent after : List ℕ} {k n : ℕ} (listed : Listed cdm cds k 
   pub start-is-s : {i : ℕ} → i < n → Started (rowOf cdm) k (placeAt (listIn n after) i)
   start-is-s there = list.start-is-s listed there
 
-  -- .. and let in before those zeros, with as much room, read lists that entry too, byte for byte.
+  -- .. and let in before those zeros, with as much room, read lists that entry too, but for the bank.
   pub open-at-frame : {i : ℕ} {lent′ after′ : List ℕ} {outcome : Outcome} → i < n
       → Listed cdm cds (placeAt (listIn n after) i .start - restZeros) lent′ outcome after′ → length lent ≤ length lent′
       → Reopened n i (listIn n after) outcome after′
@@ -109,13 +118,13 @@ module _ {cdm cds lent after : List ℕ} {k n : ℕ} (listed : Listed cdm cds k 
       let is-list : isList current (listIn n after) ≡ true = rw (list-bytes listed) (bytes-list current (listOf k cdm cds)) in
       ended-none printed (list-none (listIn n after) (length room) is-list (le-ltb _ _ enough))
 
--- "Two runs with the same rights and master row that differ only in registers without the read right give the same answer row": the waits
--- are the same too.
-pub two-runs : {slaves c d : ℕ} {rights waits cdm registers cds registers′ cds′ others row others′ row′ : List ℕ}
-    → Ran slaves rights waits registers cdm cds (Made c) registers′ cds′ → Ran slaves rights waits others cdm row (Made d) others′ row′
-    → DifferUnread rights registers others → cds′ ≡ row′
-two-runs {slaves} {waits} {cdm} ran ran′ differ =
-    row-bytes ran ∙ ap (map num) (protocol.two-runs _ _ (rowOf cdm) (all-alike slaves waits differ)) ∙ sym (row-bytes ran′)
+-- "Two runs with the same rights and master row that differ only in registers without the read right give the same answer row": the banks,
+-- the waits and (Request 05) the bank registers are the same too.
+pub two-runs : {slaves c d : ℕ} {table rights waits cdm registers cds registers′ cds′ others row others′ row′ : List ℕ}
+    → Ran slaves table rights waits registers cdm cds (Made c) registers′ cds′ → Ran slaves table rights waits others cdm row (Made d) others′ row′
+    → DifferUnread rights registers others → bankRegisters table registers ≡ bankRegisters table others → cds′ ≡ row′
+two-runs {table} {waits} {cdm} ran ran′ differ same =
+    row-bytes ran ∙ ap (map num) (protocol.two-runs _ _ (rowOf cdm) (all-alike table waits differ same)) ∙ sym (row-bytes ran′)
 
 -- "Rows go to text and back unchanged": what rows to text wrote, text to rows takes back, into rows with room for it.
 pub rows-come-back : (cdm cds : List ℕ) {lent text a b a′ b′ : List ℕ} {n : ℕ} {outcome : Outcome}
@@ -163,10 +172,10 @@ module _ {text a b a′ b′ lent list room out : List ℕ} {c k n p : ℕ} (row
 
 -- All of it: a chain is run, its rows are written as text, the text is indexed, and what is printed is the chain's own account.
 pub account-is-printed : {slaves c d n m p : ℕ}
-    {rights waits registers cdm cds registers′ cds′ lent written a b a′ b′ lent′ list room out : List ℕ} → areBytes registers ≡ true
-    → Ran slaves rights waits registers cdm cds (Made c) registers′ cds′ → RowsPrinted cdm cds′ lent (Made m) written
+    {table rights waits registers cdm cds registers′ cds′ lent written a b a′ b′ lent′ list room out : List ℕ} → areBytes registers ≡ true
+    → Ran slaves table rights waits registers cdm cds (Made c) registers′ cds′ → RowsPrinted cdm cds′ lent (Made m) written
     → RowsTaken (take m written) a b (Made d) a′ b′ → Listed (take d a′) (take d b′) 0 lent′ (Made n) list
     → ListPrinted (listIn n list) room (Made p) out
-    → take p out ≡ listText (account (memoriesOf slaves registers rights waits) (rowOf cdm))
+    → take p out ≡ listText (account (memoriesOf table registers rights waits) (rowOf cdm))
 account-is-printed {cdm} {cds′} bytes ran wrote rows listed printed =
     written-is-printed rows listed printed cdm cds′ wrote refl ∙ rw (row-account ran bytes)

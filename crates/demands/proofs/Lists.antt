@@ -5,19 +5,20 @@ use mathlib.Core.Option.{none, some, Option·none-ne-some, Option·some-injectiv
 use Prim.Native.Nat.{ℕ, zero, suc, _+_, _-_, _*_, _≤_, _<_}
 use native.Mathlib.Omega.{arith}
 use borrow.Author.Tests.{ltb-false, eqb-true, not-false}
-use lib.ListN.{length, drop, getElem?, length-map, length-drop, drop-of-length-le}
-use lib.Seq.{drop-append-add, drop-drop}
+use lib.ListN.{length, drop, getElem?, length-map, length-drop}
 use Rattle.protocol.specs.Bits.{bitOf, rowOf}
-use Rattle.protocol.specs.Entries.{number, Entry}
+use Rattle.protocol.specs.Entries.{number}
+use Rattle.protocol.specs.Banks.{Banked, bare}
 use Rattle.protocol.specs.Pieces.{joined}
 use Rattle.protocol.specs.Layout.{Field, current, width, valueOf, entryBytes, offset, bytesOf, listBytes, fieldAt, entriesIn}
 use Rattle.protocol.specs.Limits.{restZeros}
 use Rattle.protocol.specs.Reader.{columns}
-use Rattle.protocol.specs.Late.{FirstFourteen, NoFourteen, fromColumn, Started}
+use Rattle.protocol.specs.Late.{FirstFourteen, NoFourteen, fromColumn, Agrees, Started}
 use Rattle.laws.proofs.Every.{Every, looked-up}
-use Rattle.laws.proofs.Places.{outside, every-at}
+use Rattle.laws.proofs.Places.{outside, at-drop, every-at}
 use Rattle.protocol.proofs.Pieces.{number-behind}
 use Rattle.protocol.proofs.Codec.{field-back, length-entry, length-list, entries-back}
+use Rattle.protocol.proofs.Banks.{agrees-bare}
 use Rattle.protocol.proofs.Late.{masters, masters-columns}
 use Rattle.protocol.proofs.Demands as protocol
 use Rattle.job.specs.Refusals.{first, lent, lentAfter}
@@ -28,10 +29,10 @@ use Rattle.job.proofs.Refusals.{no, none-before, was-made, ended-none, result-f
 use Rattle.read.specs.Read.{listOf, rowsRefusals, refusals, Listed}
 use Rattle.read.proofs.Bytes.{Small, small-list}
 use Rattle.read.proofs.Ends.{rows-good, rows-through, not-refused}
-use Rattle.demands.specs.Lent.{listIn, kindAt, placeAt, entryIn, Reopened}
+use Rattle.demands.specs.Lent.{listIn, kindAt, placeAt, bareAt, Reopened}
 
 -- What stands in a field of the entry at a place of a list.
-field-there : (es : List Entry) (i : ℕ) (e : Entry) (f : Field) → getElem? es i ≡ some e
+field-there : (es : List Banked) (i : ℕ) (e : Banked) (f : Field) → getElem? es i ≡ some e
     → fieldAt current (listBytes current es) (entryBytes current * i) f ≡ valueOf e f
 unfolding listBytes joined
 field-there [] i e f there = absurd (Option·none-ne-some _ there)
@@ -43,21 +44,26 @@ field-there (d ∷ es) (suc i) e f there =
     (field-there es i e f there)
 
 -- What holds of the kind's number of every entry holds of the numbers that stand in the list.
-pub kind-at : (Q : ℕ → Type 0) (es : List Entry) (i : ℕ) → Every (λ e. Q (number (e .event .kind))) es → i < length es
+pub kind-at : (Q : ℕ → Type 0) (es : List Banked) (i : ℕ) → Every (λ e. Q (number (e .entry .event .kind))) es → i < length es
     → Q (kindAt (listBytes current es) i)
 unfolding kindAt
 kind-at Q es i holds h =
     looked-up (getElem? es i) (λ none. absurd (omega (arith, outside es i none)))
     (λ e there. rw (field-there es i e Field.kind there) (every-at _ es i e holds there))
 
--- A list without its first entries.
-bytes-drop : (n : ℕ) (es : List Entry) → listBytes current (drop n es) ≡ drop (entryBytes current * n) (listBytes current es)
-unfolding listBytes joined
-bytes-drop zero es = refl
-bytes-drop (suc n) [] = sym (drop-of-length-le [] {i = entryBytes current * suc n} (omega arith))
-bytes-drop (suc n) (e ∷ es) =
-    let on : entryBytes current * suc n ≡ length (bytesOf current e) + entryBytes current * n = omega (arith, length-entry current e) in
-    rw (on, drop-append-add) (bytes-drop n es)
+-- A list without its banks: as long, the same entry at a place, and the same without its first entries.
+bare-long : (es : List Banked) → length (bare es) ≡ length es
+bare-long es = length-map es _
+
+bare-there : (es : List Banked) (i : ℕ) (e : Banked) → getElem? es i ≡ some e → getElem? (bare es) i ≡ some (e .entry)
+bare-there [] i e there = absurd (Option·none-ne-some _ there)
+bare-there (d ∷ es) zero e there = ap (λ (b : Banked). some (b .entry)) (Option·some-injective d e there)
+bare-there (d ∷ es) (suc i) e there = bare-there es i e there
+
+bare-drop : (n : ℕ) (es : List Banked) → bare (drop n es) ≡ drop n (bare es)
+bare-drop zero es = refl
+bare-drop (suc n) [] = refl
+bare-drop (suc n) (e ∷ es) = bare-drop n es
 
 -- What it says that read made a list.
 module _ {cdm cds out after : List ℕ} {k n : ℕ} (listed : Listed cdm cds k out (Made n) after) where
@@ -87,7 +93,7 @@ module _ {cdm cds out after : List ℕ} {k n : ℕ} (listed : Listed cdm cds k o
       let same = eqb-true _ _ (not-false _ (no 6 _ (was-made (listed .ends) .0))) in
       masters-columns (rowOf cdm) (rowOf cds) (length-map cdm bitOf ∙ same ∙ sym (length-map cds bitOf))
 
-  pub list-late : {j : ℕ} → FirstFourteen (rowOf cdm) k j → listOf k cdm cds ≡ fromColumn (j + restZeros) (listOf 0 cdm cds)
+  pub list-late : {j : ℕ} → FirstFourteen (rowOf cdm) k j → Agrees (listOf k cdm cds) (fromColumn (j + restZeros) (listOf 0 cdm cds))
   unfolding listOf
   list-late {j} first = protocol.late-opening _ k j (rw list-masters first)
 
@@ -96,11 +102,11 @@ module _ {cdm cds out after : List ℕ} {k n : ℕ} (listed : Listed cdm cds k o
   list-never never = protocol.late-nothing _ k (rw list-masters never)
 
   -- What its entry i has in a field.
-  pub entry-field : (i : ℕ) (e : Entry) (f : Field) → getElem? (listOf k cdm cds) i ≡ some e
+  pub entry-field : (i : ℕ) (e : Banked) (f : Field) → getElem? (listOf k cdm cds) i ≡ some e
       → fieldAt current (listIn n after) (entryBytes current * i) f ≡ valueOf e f
   entry-field i e f there = rw list-bytes (field-there (listOf k cdm cds) i e f there)
 
-  pub entry-there : {i : ℕ} {Q : Type 0} → i < n → ((e : Entry) → getElem? (listOf k cdm cds) i ≡ some e → Q) → Q
+  pub entry-there : {i : ℕ} {Q : Type 0} → i < n → ((e : Banked) → getElem? (listOf k cdm cds) i ≡ some e → Q) → Q
   entry-there {i} h go =
       looked-up (getElem? (listOf k cdm cds) i) (λ none. absurd (omega (arith, outside (listOf k cdm cds) i none, list-count))) go
 
@@ -114,15 +120,15 @@ module _ {cdm cds out after : List ℕ} {k n : ℕ} (listed : Listed cdm cds k o
       (rw list-masters at (every-at _ (listOf k cdm cds) i e (protocol.start-is-s _ k) there)))
 
   -- Read lets the rows through from there too, and as much room is enough.
-  module _ (i : ℕ) (e : Entry) (there : getElem? (listOf k cdm cds) i ≡ some e) where
-    pub rows-again : first (rowsRefusals cdm cds (e .place .start - restZeros)) ≡ none
+  module _ (i : ℕ) (e : Banked) (there : getElem? (listOf k cdm cds) i ≡ some e) where
+    pub rows-again : first (rowsRefusals cdm cds (e .entry .place .start - restZeros)) ≡ none
     unfolding refusals rowsRefusals
     rows-again =
         let through = none-before (rowsRefusals cdm cds k) _ (was-made (listed .ends) .0) in
         let small : Small (length cdm) e
         = every-at _ (listOf k cdm cds) i e (small-list k cdm cds (rows-through cdm cds k through .within)) there in
         let right = none-before (wrongRows cdm cds) _ through in
-        sym (rows-good cdm cds (e .place .start - restZeros) {why = 0} (sym right) refl (omega arith))
+        sym (rows-good cdm cds (e .entry .place .start - restZeros) {why = 0} (sym right) refl (omega arith))
 
   list-fits : length (listBytes current (listOf k cdm cds)) ≤ length out
   unfolding refusals rowsRefusals wrongRows rowRules
@@ -130,24 +136,29 @@ module _ {cdm cds out after : List ℕ} {k n : ℕ} (listed : Listed cdm cds k o
 
 -- Opened at the frame of entry e, entry i of a list that read made.
 module _ {cdm cds out after out′ after′ : List ℕ} {k n i : ℕ} {outcome : Outcome} (listed : Listed cdm cds k out (Made n) after) where
-  reopened-at : (e : Entry) → getElem? (listOf k cdm cds) i ≡ some e → Listed cdm cds (e .place .start - restZeros) out′ outcome after′
+  reopened-at : (e : Banked) → getElem? (listOf k cdm cds) i ≡ some e → Listed cdm cds (e .entry .place .start - restZeros) out′ outcome after′
       → length out ≤ length out′ → Reopened n i (listIn n after) outcome after′
-  unfolding listOf entryIn
+  unfolding listOf bareAt
   reopened-at e there again room =
-      let list : List Entry = listOf k cdm cds in
-      let late : List Entry = listOf (e .place .start - restZeros) cdm cds in
-      let at = protocol.open-at-frame _ k i e there in
+      let list : List Banked = listOf k cdm cds in
+      let late : List Banked = listOf (e .entry .place .start - restZeros) cdm cds in
+      let at = protocol.open-at-frame _ k i (e .entry) (bare-there list i e there) in
       let from : ℕ = at .skipped in
-      let same : late ≡ drop from list = at .the-same in
-      let count : length late ≡ n - from = rw (same, length-drop, list-count listed) in
+      let same : bare late ≡ drop from (bare list) = agrees-bare _ _ _ (at .the-same) ∙ bare-drop from list in
+      let count : length late ≡ n - from = sym (bare-long late) ∙ rw (same, length-drop, bare-long list, list-count listed) in
       let enough : length (listBytes current late) ≤ length out′
       = omega (arith, length-list current late, length-list current list, list-fits listed, list-count listed) in
       let made : outcome ≡ Made (n - from)
       = ended-none (again .ends) (not-refused cdm cds _ out′ (rows-again listed i e there) enough) ∙ ap Made count in
-      let bytes : listIn (n - from) after′ ≡ drop (entryBytes current * from) (listIn n after)
-      = list-bytes (rw made at again) ∙ ap (listBytes current) same ∙ rw (list-bytes listed) (bytes-drop from list) in
-      let on : entryBytes current * from + entryBytes current * (i - from) ≡ entryBytes current * i = omega (arith, at .not-it) in
-      record { skipped = from; not-it = at .not-it; made = made; the-same = bytes; in-it = rw (bytes, drop-drop, on) }
+      let entries : entriesIn current (listIn (n - from) after′) ≡ late = list-entries (rw made at again) in
+      let on : from + (i - from) ≡ i = omega (arith, at .not-it) in
+      record {
+        skipped = from;
+        not-it = at .not-it;
+        made = made;
+        the-same = rw (entries, list-entries listed) (at .the-same);
+        in-it = rw (entries, list-entries listed, same, at-drop, on);
+      }
 
   pub reopened : i < n → Listed cdm cds (placeAt (listIn n after) i .start - restZeros) out′ outcome after′ → length out ≤ length out′
       → Reopened n i (listIn n after) outcome after′

@@ -1,17 +1,22 @@
 -- What the demands say of lent buffers: that they hold bytes, a list in one and its entries, the kinds that no chain makes, and those that
--- no chain makes that does not wait; and registers that differ only where nothing may be read.
+-- no chain makes that does not wait; and registers that differ only where nothing may be read, with the same numbers in the bank registers.
 use mathlib.Core.Path.{_≡_}
 use mathlib.Core.Bool.{Bool, true, false, _||_}
 use mathlib.Core.List.{List, [], _∷_}
+use mathlib.Core.Option.{Option}
 use Prim.Native.Nat.{ℕ, _-_, _*_, _≤_}
 use lib.Dec.{eqb}
-use lib.ListN.{length, take, drop, getD}
+use lib.ListN.{length, take, drop, getD, getElem?}
+use Rattle.protocol.specs.Limits.{bankSize}
 use Rattle.protocol.specs.Bits.{num, bit}
-use Rattle.protocol.specs.Entries.{Place}
-use Rattle.protocol.specs.Layout.{Field, current, entryBytes, fieldAt}
+use Rattle.protocol.specs.Entries.{Place, Entry}
+use Rattle.protocol.specs.Banks.{bare}
+use Rattle.protocol.specs.Layout.{Field, current, entryBytes, fieldAt, entriesIn}
+use Rattle.protocol.specs.Late.{Agrees}
 use Rattle.job.specs.Bytes.{noneAbove}
 use Rattle.job.specs.declared.Outcome.{Outcome}
 use Rattle.job.specs.declared.Outcome.the-variants.{Made}
+use Rattle.run.specs.Run.{sizeOf}
 
 -- A lent buffer holds bytes, as every slice of `u8` does.
 unfoldable pub areBytes : List ℕ → Bool
@@ -33,18 +38,18 @@ placeAt list place =
       start = fieldAt current list (entryBytes current * place) Field.start;
     }
 
--- .. and all its bytes.
-unfoldable pub entryIn : (list : List ℕ) → (place : ℕ) → List ℕ
-entryIn list place = take (entryBytes current) (drop (entryBytes current * place) list)
+-- .. and what it is, but for its bank.
+unfoldable pub bareAt : (list : List ℕ) → (place : ℕ) → Option Entry
+bareAt list place = getElem? (bare (entriesIn current list)) place
 
--- Request 02, "Open at the frame", of a list of n entries and one opened at the frame of its entry i: it was made, it is the same from some
--- entry on, and entry i is in it, byte for byte.
+-- Request 02, "Open at the frame", of a list of n entries and one opened at the frame of its entry i: it was made, it agrees from some entry
+-- on, and entry i is in it, but for the bank.
 pub record Reopened (n i : ℕ) (list : List ℕ) (outcome : Outcome) (after : List ℕ) : Type 0 where
   pub skipped : ℕ
   pub not-it : skipped ≤ i
   pub made : outcome ≡ Made (n - skipped)
-  pub the-same : listIn (n - skipped) after ≡ drop (entryBytes current * skipped) list
-  pub in-it : entryIn (listIn (n - skipped) after) (i - skipped) ≡ entryIn list i
+  pub the-same : Agrees (entriesIn current (listIn (n - skipped) after)) (drop skipped (entriesIn current list))
+  pub in-it : bareAt (listIn (n - skipped) after) (i - skipped) ≡ bareAt list i
 
 -- A number is one of some.
 abbrev pub isOneOf : List ℕ → ℕ → Bool
@@ -67,3 +72,9 @@ mayRead rights place = bit (num false) (getD rights place 0)
 pub record DifferUnread (rights registers registers′ : List ℕ) : Type 0 where
   pub as-many : length registers ≡ length registers′
   pub readable : (place : ℕ) → mayRead rights place ≡ true → getD registers place 0 ≡ getD registers′ place 0
+
+-- The numbers in the bank registers of a table's slaves, each behind its slave's banks. Request 05: "In 01's two runs the bank registers are
+-- equal".
+unfoldable pub bankRegisters : (table registers : List ℕ) → List ℕ
+bankRegisters [] registers = []
+bankRegisters (b ∷ table) registers = getD registers (bankSize * b) 0 ∷ bankRegisters table (drop (sizeOf b) registers)

@@ -20,7 +20,9 @@ pub const ID: usize = START + 2;
 
 pub const ADDRESS: usize = ID + 1;
 
-pub const VALUE: usize = ADDRESS + 1;
+pub const BANK: usize = ADDRESS + 1;
+
+pub const VALUE: usize = BANK + 1;
 
 pub const ENTRY_BYTES: usize = VALUE + 1;
 

@@ -1,5 +1,5 @@
 -- The kinds' numbers: 1 to the last kind's, and no other number. Assumes nothing.
-use mathlib.Core.Path.{_≡_, refl, sym, _∙_}
+use mathlib.Core.Path.{_≡_, refl, sym, ap, _∙_}
 use mathlib.Core.Bool.{Bool, true, false, _&&_, false≢true}
 use mathlib.Core.List.{List, [], _∷_}
 use mathlib.Core.Option.{none}
@@ -8,9 +8,10 @@ use native.Mathlib.Omega.{arith}
 use borrow.Author.Tests.{leb-true, leb-false, ne-eqb}
 use lib.Dec.{leb}
 use Rattle.protocol.specs.Entries.{Kind, closed, number, kinds, numbered}
+use Rattle.protocol.proofs.Codec.{numbered-own}
 use Rattle.laws.proofs.Every.{tested, both}
 use Rattle.laws.proofs.Table.{below}
-use Rattle.kinds.specs.Kinds.{isKind}
+use Rattle.kinds.specs.Kinds.{isOne, isKind}
 
 -- The last kind's number.
 abbrev pub last : ℕ
@@ -40,6 +41,10 @@ is-kinds = below last (λ k. isKind (suc k)) refl
 pub no-kind : isKind 0 ≡ false
 unfolding isKind numbered
 no-kind = refl
+
+pub own-kind : (k : Kind) → isKind (number k) ≡ true
+unfolding isKind
+own-kind k = ap isOne (numbered-own k)
 
 pub up-to-last : (n : ℕ) → (n ≡ 0 → ⊥) → leb n last ≡ isKind n
 up-to-last zero h = absurd (h refl)

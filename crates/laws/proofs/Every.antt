@@ -1,7 +1,7 @@
 -- What holds of every element of a list, of what an option may hold, of both outcomes of a test, and of two lists element by
 -- element. Assumes nothing.
 use mathlib.Core.Path.{_≡_, refl}
-use mathlib.Core.Bool.{Bool, true, false, cond, not, _&&_, Bool·beq, false≢true}
+use mathlib.Core.Bool.{Bool, true, false, cond, not, _&&_, _||_, Bool·beq, false≢true}
 use mathlib.Core.List.{List, [], _∷_}
 use mathlib.Core.Option.{Option, none, some}
 
@@ -31,6 +31,11 @@ looked-up (some x) nothing found = found x refl
 pub both : (a b : Bool) → a && b ≡ true → (a ≡ true) × (b ≡ true)
 both true b h = (refl, h)
 both false b h = absurd (false≢true h)
+
+-- One of two tests holds, and not the second.
+pub or-left : (a : Bool) → a || false ≡ true → a ≡ true
+or-left true h = refl
+or-left false h = h
 
 -- A repeated bit and an inverted one.
 pub beq-same : (b : Bool) → Bool·beq b b ≡ true

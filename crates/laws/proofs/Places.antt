@@ -2,9 +2,10 @@
 use mathlib.Core.Path.{_≡_, refl, sym, ap}
 use mathlib.Core.List.{List, [], _∷_}
 use mathlib.Core.Option.{none, some, Option·none-ne-some, Option·some-injective}
-use Prim.Native.Nat.{ℕ, zero, suc, _≤_, _<_}
+use Prim.Native.Nat.{ℕ, zero, suc, _+_, _≤_, _<_}
+use native.Mathlib.Nat.{suc-inj, zero-add, suc-add}
 use native.Mathlib.Omega.{arith}
-use lib.ListN.{length, set, getElem?}
+use lib.ListN.{length, drop, set, getD, getElem?}
 use Rattle.laws.proofs.Every.{Every}
 
 module _ {A : Type 0} where
@@ -19,6 +20,12 @@ module _ {A : Type 0} where
   outside (y ∷ l) zero e = absurd (Option·none-ne-some _ (sym e))
   outside (y ∷ l) (suc i) e = omega (arith, outside l i e)
 
+  -- What stands at a place of a list without its first ones.
+  pub at-drop : (n : ℕ) (l : List A) (i : ℕ) → getElem? (drop n l) i ≡ getElem? l (n + i)
+  at-drop zero l i = rw (zero-add i)
+  at-drop (suc n) [] i = refl
+  at-drop (suc n) (x ∷ l) i = rw (suc-add n i) (at-drop n l i)
+
   -- Put back what stands there, and nothing changes; what was put there stands there.
   pub set-same : (l : List A) (i : ℕ) (x : A) → getElem? l i ≡ some x → set l i x ≡ l
   set-same [] i x e = refl
@@ -29,6 +36,30 @@ module _ {A : Type 0} where
   at-set [] i x y e = absurd (Option·none-ne-some _ e)
   at-set (v ∷ l) zero x y e = refl
   at-set (v ∷ l) (suc i) x y e = at-set l i x y e
+
+  -- The same put at the same place of two lists of one length: they are alike wherever they were, and at that place.
+  pub set-like : (l l′ : List A) (i j : ℕ) (v d : A) → length l ≡ length l′ → getD l j d ≡ getD l′ j d
+      → getD (set l i v) j d ≡ getD (set l′ i v) j d
+  set-like [] [] i j v d n e = refl
+  set-like [] (y ∷ l′) i j v d n e = absurd (omega arith)
+  set-like (x ∷ l) [] i j v d n e = absurd (omega arith)
+  set-like (x ∷ l) (y ∷ l′) zero zero v d n e = refl
+  set-like (x ∷ l) (y ∷ l′) zero (suc j) v d n e = e
+  set-like (x ∷ l) (y ∷ l′) (suc i) zero v d n e = e
+  set-like (x ∷ l) (y ∷ l′) (suc i) (suc j) v d n e = set-like l l′ i j v d (suc-inj n) e
+
+  pub set-here : (l l′ : List A) (i : ℕ) (v d : A) → length l ≡ length l′ → getD (set l i v) i d ≡ getD (set l′ i v) i d
+  set-here [] [] i v d n = refl
+  set-here [] (y ∷ l′) i v d n = absurd (omega arith)
+  set-here (x ∷ l) [] i v d n = absurd (omega arith)
+  set-here (x ∷ l) (y ∷ l′) zero v d n = refl
+  set-here (x ∷ l) (y ∷ l′) (suc i) v d n = set-here l l′ i v d (suc-inj n)
+
+  -- Where there is a value no default matters.
+  pub any-default : (l : List A) (i : ℕ) (d d′ : A) → i < length l → getD l i d ≡ getD l i d′
+  any-default [] i d d′ h = absurd (omega arith)
+  any-default (x ∷ l) zero d d′ h = refl
+  any-default (x ∷ l) (suc i) d d′ h = any-default l i d d′ (omega arith)
 
   -- What holds of all holds at a place.
   pub every-at : (Q : A → Type 0) (l : List A) (i : ℕ) (x : A) → Every Q l → getElem? l i ≡ some x → Q x

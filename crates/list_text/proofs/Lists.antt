@@ -8,7 +8,7 @@ use native.Mathlib.Omega.{arith}
 use borrow.Author.Tests.{lt-ltb, le-ltb, ltb-true, ltb-false}
 use lib.Dec.{ltb}
 use lib.ListN.{length, length-append, drop}
-use Rattle.protocol.specs.Entries.{Entry}
+use Rattle.protocol.specs.Banks.{Banked}
 use Rattle.protocol.specs.Layout.{current, entryBytes, entriesIn, isList}
 use Rattle.protocol.specs.Text.{listHeader, entryLine, entryLines, listText}
 use Rattle.laws.proofs.Every.{tested}
@@ -49,7 +49,7 @@ module _ (l : List ℕ) (i : ℕ) where
   line-none h = rw (entries-none current l i h)
 
 -- A list's text: the header and the lines.
-pub text-length : (es : List Entry) → length (listText es) ≡ length listHeader + length (entryLines es)
+pub text-length : (es : List Banked) → length (listText es) ≡ length listHeader + length (entryLines es)
 unfolding listText
 text-length es = length-append listHeader (entryLines es)
 

@@ -6,7 +6,8 @@ use Prim.Native.Nat.{ℕ, _+_, _≤_}
 use native.Mathlib.Omega.{arith}
 use lib.ListN.{length, length-append, set}
 use lib.Seq.{sets, length-sets}
-use Rattle.protocol.specs.Entries.{table, Entry}
+use Rattle.protocol.specs.Entries.{table}
+use Rattle.protocol.specs.Banks.{Banked}
 use Rattle.protocol.specs.Layout.{Field, numbers, valueOf, named}
 use Rattle.protocol.specs.Text.{tab, feed, decimal, field, cells, entryLine}
 use Rattle.print.specs.Laid.{Laid}
@@ -26,17 +27,17 @@ unfolding field
 field-unnamed b n e = rw e
 
 -- How long the fields of a line are, with the line feed ..
-abbrev pub cellsLength : Entry → List Field → ℕ
+abbrev pub cellsLength : Banked → List Field → ℕ
 cellsLength e [] = 1
 cellsLength e (f ∷ fs) = length (field (named e f) (valueOf e f)) + cellsLength e fs
 
-cells-length : (e : Entry) (fs : List Field) → length (cells e fs) ≡ cellsLength e fs
+cells-length : (e : Banked) (fs : List Field) → length (cells e fs) ≡ cellsLength e fs
 unfolding cells
 cells-length e [] = refl
 cells-length e (f ∷ fs) = rw (length-append, cells-length e fs)
 
 -- .. and a line.
-pub line-length : (e : Entry) → length (entryLine e) ≡ length (table (e .event .kind) .name) + cellsLength e numbers
+pub line-length : (e : Banked) → length (entryLine e) ≡ length (table (e .entry .event .kind) .name) + cellsLength e numbers
 unfolding entryLine
 line-length e = rw (length-append, cells-length e numbers)
 
@@ -67,7 +68,7 @@ module _ {all lent now : List ℕ} {at p : ℕ} where
       record { behind = omega (arith, l .place); laid = rw q at (l .laid) }
 
   -- A field of a line, by what the code found it to be: named or not.
-  module _ (e : Entry) (f : Field) (fs : List Field) {b : Bool} (q : b ≡ named e f) where
+  module _ (e : Banked) (f : Field) (fs : List Field) {b : Bool} (q : b ≡ named e f) where
     pub field-room : Left all at lent (cells e (f ∷ fs)) p now → p + length (field b (valueOf e f)) ≤ length now
     unfolding cells
     field-room l = rw q (omega (arith, l .fits, length-append (field (named e f) (valueOf e f)) (cells e fs)))
@@ -78,6 +79,6 @@ module _ {all lent now : List ℕ} {at p : ℕ} where
     field-behind l put = left-behind (cells e fs) l (rw q at put)
 
   -- The line feed.
-  pub line-end : (e : Entry) → Left all at lent (cells e []) p now → Laid all at lent (p + 1) (set now p feed)
+  pub line-end : (e : Banked) → Left all at lent (cells e []) p now → Laid all at lent (p + 1) (set now p feed)
   unfolding cells
   line-end e l = record { behind = l .place; laid = l .laid }

@@ -20,7 +20,7 @@ use lists::Fields;
 pub fn list_to_text(list: &[u8], out: &mut [u8]) -> Outcome
     ensures { λ r. ⌜ ListPrinted (now (list .entry)) (now (out .entry)) r (now (out .exit)) ⌝ }
 {
-    let header: &[u8] = b"event\tcolumn\tstart\tid\taddress\tvalue\n";
+    let header: &[u8] = b"event\tcolumn\tstart\tid\taddress\tbank\tvalue\n";
     if lists::is_list(list) {
         if too_long(list, header.len(), out.len()) {
             return Outcome::Refused(9, Detail::Alone);
@@ -83,9 +83,15 @@ fn put_line(out: &mut [u8], at: usize, e: Fields) -> usize
         names::has_field(e.kind, names::ADDRESS),
         e.address as u16,
     );
-    let value = put_field(
+    let bank = put_field(
         out,
         address,
+        names::has_bank(e.kind, e.address),
+        e.bank as u16,
+    );
+    let value = put_field(
+        out,
+        bank,
         names::has_field(e.kind, names::VALUE),
         e.value as u16,
     );
@@ -101,8 +107,9 @@ fn line_length(e: Fields) -> usize
     let columns = field_length(true, e.column) + field_length(true, e.start);
     let id = field_length(names::has_field(e.kind, names::ID), e.id as u16);
     let address = field_length(names::has_field(e.kind, names::ADDRESS), e.address as u16);
+    let bank = field_length(names::has_bank(e.kind, e.address), e.bank as u16);
     let value = field_length(names::has_field(e.kind, names::VALUE), e.value as u16);
-    names::name_length(e.kind) + columns + id + address + value + 1
+    names::name_length(e.kind) + columns + id + address + bank + value + 1
 }
 
 // A TAB, and the field in decimal or `-`.

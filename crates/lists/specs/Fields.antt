@@ -2,7 +2,7 @@
 -- (specs/Layout).
 use mathlib.Core.List.{List}
 use Prim.Native.Nat.{ℕ}
-use Rattle.protocol.specs.Entries.{Entry}
+use Rattle.protocol.specs.Banks.{Banked}
 use Rattle.protocol.specs.Layout.{Field, current, fieldAt}
 use Rattle.kinds.specs.Kinds.{kindOf}
 use Rattle.lists.specs.declared.Fields.{Fields}
@@ -16,13 +16,17 @@ fieldsAt list i =
       start = fieldAt current list i Field.start;
       id = fieldAt current list i Field.id;
       address = fieldAt current list i Field.address;
+      bank = fieldAt current list i Field.bank;
       value = fieldAt current list i Field.value;
     }
 
 -- The entry of what stands in the fields.
-abbrev pub entryOf : Fields → Entry
+abbrev pub entryOf : Fields → Banked
 entryOf f =
     record {
-      place = record { column = f .column; start = f .start };
-      event = record { kind = kindOf (f .kind); id = f .id; address = f .address; value = f .value };
+      entry = record {
+        place = record { column = f .column; start = f .start };
+        event = record { kind = kindOf (f .kind); id = f .id; address = f .address; value = f .value };
+      };
+      bank = f .bank;
     }

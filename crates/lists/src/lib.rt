@@ -5,6 +5,7 @@ ghost use lib.ListN.{length};
 ghost use Rattle.protocol.specs.Layout.{current, entryBytes, isList};
 ghost use Rattle.lists.specs.Fields.{fieldsAt};
 use job::ADDRESS;
+use job::BANK;
 use job::COLUMN;
 use job::ENTRY_BYTES;
 use job::ID;
@@ -18,6 +19,7 @@ pub struct Fields {
     pub start: u16,
     pub id: u8,
     pub address: u8,
+    pub bank: u8,
     pub value: u8,
 }
 
@@ -48,6 +50,7 @@ pub fn entry_at(list: &[u8], i: usize) -> Fields
         start: two_bytes(list[i + START], list[i + START + 1]),
         id: list[i + ID],
         address: list[i + ADDRESS],
+        bank: list[i + BANK],
         value: list[i + VALUE],
     }
 }

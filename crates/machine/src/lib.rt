@@ -23,8 +23,8 @@ pub const LOCK_FIRST: u64 = 1;
 // .. and the one that answers IDL8.
 pub const LOCK_LAST: u64 = LOCK_FIRST + IDS;
 
-// "A slave has 128 registers and one right for each".
-pub const REGISTERS: u64 = 128;
+// "A slave has 128 registers", at as many addresses.
+pub const ADDRESSES: u64 = 128;
 
 // Byte: "eight data bits, four check bits": the bits after the first.
 pub const TOP_BIT: u64 = 11;

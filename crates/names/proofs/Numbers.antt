@@ -1,21 +1,22 @@
 -- Where the code's tables have the kinds' names and fields. Assumes nothing.
 use mathlib.Core.Path.{_≡_, refl, sym, ap, subst, _∙_}
-use mathlib.Core.Bool.{Bool, true, false, cond, false≢true}
+use mathlib.Core.Bool.{Bool, true, false, cond, and-true, and-false, false≢true}
 use mathlib.Core.List.{List, [], _∷_, _++_}
 use Prim.Native.Nat.{ℕ, zero, suc, _+_, _-_, _*_, _/_, _%_, _≤_, _<_}
 use native.Mathlib.Omega.{arith}
-use borrow.Author.Tests.{leb-true, ne-eqb}
+use borrow.Author.Tests.{leb-true, lt-ltb, le-ltb, ne-eqb}
 use lib.Dec.{leb, eqb}
 use lib.ListN.{length, getD, take, drop, replicate}
+use Rattle.protocol.specs.Limits.{bankSize}
 use Rattle.protocol.specs.Bits.{num}
 use Rattle.protocol.specs.Text.{digit}
 use Rattle.protocol.specs.Entries.{Kind, number, table, numbered}
 use Rattle.protocol.specs.Pieces.{joined}
 use Rattle.laws.proofs.Table.{tabulate, tabulated, below}
 use Rattle.protocol.proofs.Codec.{numbered-own}
-use Rattle.kinds.specs.Kinds.{isOne, isKind, kindOr, kindOf}
-use Rattle.kinds.proofs.Numbers.{last, no-kind, kind-low}
-use Rattle.names.specs.Names.{nameOf, names}
+use Rattle.kinds.specs.Kinds.{isKind, kindOr, kindOf}
+use Rattle.kinds.proofs.Numbers.{last, no-kind, own-kind, kind-low}
+use Rattle.names.specs.Names.{nameOf, names, namesBankOf}
 
 -- The room of a name.
 abbrev pub nameRoom : ℕ
@@ -25,10 +26,6 @@ nameRoom = 8
 low-short : (n : ℕ) → n < suc last → length (nameOf n) ≤ nameRoom
 unfolding nameOf numbered
 low-short n h = leb-true _ nameRoom (below (suc last) (λ k. leb (length (nameOf k)) nameRoom) refl n h)
-
-own-kind : (k : Kind) → isKind (number k) ≡ true
-unfolding isKind
-own-kind k = ap isOne (numbered-own k)
 
 pub kind-short : (k : Kind) → length (table k .name) ≤ nameRoom
 unfolding nameOf
@@ -87,3 +84,13 @@ field-at k field h l =
     let which : (4 * k + field) % 4 ≡ field = omega arith in
     let some : eqb field 3 ≡ false = ne-eqb field 3 (λ q. omega arith) in
     rw (tabulated fieldDigit 0 (4 * suc last) (4 * k + field) (omega arith), kind, which, some) (is-one (names k field))
+
+-- A bank is named where the address is, below the fixed ones.
+module _ (k address : ℕ) where
+  pub bank-by-kind : {r : Bool} → address < bankSize → r ≡ names k 1 → r ≡ namesBankOf k address
+  unfolding names namesBankOf
+  bank-by-kind h e = rw (lt-ltb address bankSize h, and-true (table (kindOf k) .has-address)) e
+
+  pub fixed-none : bankSize ≤ address → false ≡ namesBankOf k address
+  unfolding namesBankOf
+  fixed-none h = rw (le-ltb address bankSize h, and-false (table (kindOf k) .has-address))

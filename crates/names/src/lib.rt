@@ -5,7 +5,7 @@ ghost use Prim.Native.Nat.{_+_, _≤_, _<_};
 ghost use lib.ListN.{length};
 ghost use Rattle.kinds.specs.Kinds.{isKind};
 ghost use Rattle.print.specs.Laid.{Laid};
-ghost use Rattle.names.specs.Names.{nameOf, names};
+ghost use Rattle.names.specs.Names.{nameOf, names, namesBankOf};
 
 // The room of a name and of a kind's fields in the tables below; both begin with the room of 0, which is no kind.
 const NAME_ROOM: usize = 8;
@@ -19,6 +19,9 @@ pub const ADDRESS: usize = 1;
 
 pub const VALUE: usize = 2;
 
+// Registers 0 to 63 are those of a bank.
+const BANK: u8 = 64;
+
 // Whether a kind names one of them.
 pub fn has_field(kind: u8, field: usize) -> bool
     requires { ⌜ (isKind kind ≡ true) × (field < 3) ⌝ }
@@ -26,6 +29,18 @@ pub fn has_field(kind: u8, field: usize) -> bool
 {
     let fields: &[u8] = b"000 001 000 000 101 110 110 111 111 110 111 111 111 111 111 000 110 ";
     fields[FIELD_ROOM * kind as usize + field] == b'1'
+}
+
+// Whether an entry of a kind and an address names its bank (Request 05).
+pub fn has_bank(kind: u8, address: u8) -> bool
+    requires { ⌜ isKind kind ≡ true ⌝ }
+    ensures { λ r. ⌜ r ≡ namesBankOf kind address ⌝ }
+{
+    if address < BANK {
+        has_field(kind, ADDRESS)
+    } else {
+        false
+    }
 }
 
 // How long a kind's name is.

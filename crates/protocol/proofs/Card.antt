@@ -8,6 +8,7 @@ use Rattle.protocol.specs.Limits.{idCount, lockLast}
 use Rattle.protocol.specs.Bits.{bit, push}
 use Rattle.protocol.specs.Rest.{Timed, frame, judge, timer}
 use Rattle.protocol.specs.Division.{divideBit, divide, remainder, check}
+use Rattle.protocol.specs.Banks.{learnt, bankOf, banked}
 use Rattle.protocol.specs.Card.{lockRow, blank, found, card}
 use Rattle.protocol.specs.Slave
 use Rattle.protocol.specs.Chain
@@ -15,7 +16,7 @@ use Rattle.protocol.specs.Reader
 use Rattle.laws.proofs.Table.{tabulate}
 
 pub card-holds : map (λ l. found (l .question)) card ≡ map (λ l. l .value ∷ []) card
-unfolding found check remainder divide divideBit bit push judge timer Slave.lock Slave.speak Slave.step Chain.pass Chain.answers Chain.switchedOn Chain.answersFrom Reader.seen Reader.locked Reader.look Reader.step Reader.columns Reader.entries Reader.listFrom
+unfolding found check remainder divide divideBit bit push judge timer Slave.lock Slave.speak Slave.step Chain.pass Chain.answers Chain.switchedOn Chain.answersFrom Reader.seen Reader.locked Reader.look Reader.step Reader.columns Reader.entries Reader.entriesFrom Reader.listFrom banked learnt bankOf
 card-holds = refl
 
 -- A slave after the card's lock row: nine zeros after S, at the header's next column, with or without a number.

@@ -12,14 +12,15 @@ use mathlib.Core.Bool.{Bool, true, false, not}
 use mathlib.Core.List.{List, [], _∷_, _++_, map}
 use Prim.Native.Nat.{ℕ, zero, suc, _+_, _*_}
 use Prim.Native.String.{String}
-use lib.ListN.{replicate, drop}
+use lib.ListN.{replicate, drop, set}
 use Rattle.protocol.specs.Bits.{bit, bits, push}
 use Rattle.protocol.specs.Rest.{judge, timer}
 use Rattle.protocol.specs.Division.{divideBit, divide, remainder, check, word, fits, byteOf}
 use Rattle.protocol.specs.Header.{header}
-use Rattle.protocol.specs.Memory.{Memory, allows, holds, stored, delayBy, delay}
+use Rattle.protocol.specs.Memory.{Memory, chosen, placeOf, allows, holds, stored, delayBy, delay}
 use Rattle.protocol.specs.Building.{read, write, command, byteColumns, frameOf, rowFor}
-use Rattle.protocol.specs.Entries.{Kind, event, Entry, bytes, numbered}
+use Rattle.protocol.specs.Entries.{Kind, event, bytes, numbered}
+use Rattle.protocol.specs.Banks.{Banked, learnt, bankOf, banked}
 use Rattle.protocol.specs.Pieces.{inBytes, numberAt, cut, pieces, isWhole}
 use Rattle.protocol.specs.Layout.{current, fieldBytes, bytesOf, entriesOf, entriesIn, allEntries, isList}
 use Rattle.protocol.specs.Text.{digitsIn, decimal, field, cells, entryLine, entryLines}
@@ -30,13 +31,13 @@ use Rattle.protocol.specs.Reader
 use Rattle.laws.proofs.Table.{tabulate}
 use Rattle.protocol.proofs.Drawn.{holding, one, slow, columnsOf, drawn}
 
-flip : ℕ → List Bool → List Bool
+unfoldable pub flip : ℕ → List Bool → List Bool
 flip zero [] = []
 flip (suc n) [] = []
 flip zero (b ∷ bs) = not b ∷ bs
 flip (suc n) (b ∷ bs) = b ∷ flip n bs
 
-flips : List ℕ → List Bool → List Bool
+unfoldable pub flips : List ℕ → List Bool → List Bool
 flips [] bs = bs
 flips (n ∷ ns) bs = flip n (flips ns bs)
 
@@ -44,14 +45,14 @@ pub record Sample : Type 0 where
   pub chain : List Memory
   pub row : List Bool
   pub damage : List ℕ
-  pub shows : List Entry
+  pub shows : List Banked
 
-pub listed : Sample → List Entry
+pub listed : Sample → List Banked
 listed s =
     Reader.listFrom 0 (Reader.columns (s .row) (flips (s .damage) (Chain.answersFrom (s .chain) (s .row))))
 
 -- the chain, the master row, the columns whose answers are flipped, the list
-sample : List Memory → List Bool → List ℕ → List Entry → Sample
+sample : List Memory → List Bool → List ℕ → List Banked → Sample
 sample chain row damage shows = record { chain = chain; row = row; damage = damage; shows = shows }
 
 -- The built read of ID 0, address 44, one byte, and one zero more; the built write of 5B there.
@@ -61,14 +62,18 @@ reading = rowFor (read 0 0x44 1 0) ++ false ∷ []
 writing : List Bool
 writing = rowFor (write 0 0x44 (0x5B ∷ []) 0)
 
--- An entry: its kind, column, id, address and value.
-unfoldable pub entry : Kind → (column id address value : ℕ) → Entry
-entry kind column id address value = inFrame column (event kind id address value)
+-- An entry: its kind, column, id, address and value; it names no bank ..
+unfoldable pub entry : Kind → (column id address value : ℕ) → Banked
+entry kind column id address value = record { entry = inFrame column (event kind id address value); bank = 0 }
 
-locked : Entry
+-- .. or one, at addresses 0 to 63.
+behind : (bank : ℕ) → Banked → Banked
+behind bank e = record { entry = e .entry; bank = bank }
+
+locked : Banked
 locked = entry Kind.lock 23 0 0 1
 
-ended : List Entry
+ended : List Banked
 ended = entry Kind.end 46 0 0 0 ∷ []
 
 pub samples : List Sample
@@ -136,79 +141,88 @@ samples =
     (locked ∷ entry Kind.read 44 0 127 0 ∷ entry Kind.odd 45 0 127 4 ∷ [])
     -- P answered 0 at the 64th byte
     ∷ sample (one 1) (rowFor (read 0 0x00 64 0)) (927 ∷ [])
-    (locked ∷ tabulate (λ i. entry Kind.read (44 + 14 * i) 0 i 0) 0 64 ++ entry Kind.odd 927 0 63 4 ∷ [])
+    (locked ∷ tabulate (λ i. behind 255 (entry Kind.read (44 + 14 * i) 0 i 0)) 0 64 ++ behind 255 (entry Kind.odd 927 0 63 4) ∷ [])
     ∷ []
 
 pub samples-hold : map listed samples ≡ map (λ s. s .shows) samples
-unfolding samples sample entry listed flips flip reading writing locked ended holding one slow columnsOf rowFor frameOf byteColumns word check remainder divide divideBit bit bits push fits byteOf header allows holds stored delayBy delay judge timer Slave.lock Slave.called Slave.more Slave.speak Slave.step Chain.pass Chain.answers Chain.switchedOn Chain.answersFrom Reader.seen Reader.locked Reader.headed Reader.asked Reader.look Reader.step Reader.columns Reader.entries Reader.listFrom
+unfolding samples sample entry behind listed flips flip reading writing locked ended holding one slow columnsOf rowFor frameOf byteColumns word check remainder divide divideBit bit bits push fits byteOf header chosen placeOf allows holds stored delayBy delay judge timer Slave.lock Slave.called Slave.more Slave.speak Slave.step Chain.pass Chain.answers Chain.switchedOn Chain.answersFrom Reader.seen Reader.locked Reader.headed Reader.asked Reader.look Reader.step Reader.columns Reader.entries Reader.entriesFrom Reader.listFrom banked learnt bankOf
 samples-hold = refl
 
 -- Two reads one after the other: each entry has its own frame's S, and fourteen columns before the second a reader opens at it.
-twice : (k : ℕ) → List Entry
+twice : (k : ℕ) → List Banked
 twice k =
     let row : List Bool = rowFor (read 0 0x44 1 0) ++ reading in Reader.listFrom k (Reader.columns row (Chain.answersFrom (one 3) row))
 
--- A kind, its column, the column of S, id, address and value.
-pub placed : Kind → (column start id address value : ℕ) → Entry
-placed kind column start id address value =
-    record { place = record { column = column; start = start }; event = event kind id address value }
+-- A kind, its column, the column of S, id, address, bank and value.
+pub placed : Kind → (column start id address bank value : ℕ) → Banked
+placed kind column start id address bank value =
+    record { entry = record { place = record { column = column; start = start }; event = event kind id address value }; bank = bank }
 
-second : List Entry
-second = placed Kind.lock 69 60 0 0 1 ∷ placed Kind.read 90 60 0 68 90 ∷ placed Kind.end 92 60 0 0 0 ∷ []
+second : List Banked
+second = placed Kind.lock 69 60 0 0 0 1 ∷ placed Kind.read 90 60 0 68 0 90 ∷ placed Kind.end 92 60 0 0 0 0 ∷ []
 
 starts-hold : map twice (0 ∷ 14 ∷ 46 ∷ 47 ∷ []) ≡ (locked ∷ entry Kind.read 44 0 68 90 ∷ ended ++ second) ∷ second ∷ second ∷ [] ∷ []
-unfolding twice placed second entry reading locked ended holding one rowFor frameOf byteColumns word check remainder divide divideBit bit bits push fits byteOf header allows holds stored delayBy delay judge timer Slave.lock Slave.called Slave.more Slave.speak Slave.step Chain.pass Chain.answers Chain.switchedOn Chain.answersFrom Reader.seen Reader.locked Reader.headed Reader.asked Reader.look Reader.step Reader.columns Reader.entries Reader.listFrom
+unfolding twice placed second entry reading locked ended holding one rowFor frameOf byteColumns word check remainder divide divideBit bit bits push fits byteOf header chosen placeOf allows holds stored delayBy delay judge timer Slave.lock Slave.called Slave.more Slave.speak Slave.step Chain.pass Chain.answers Chain.switchedOn Chain.answersFrom Reader.seen Reader.locked Reader.headed Reader.asked Reader.look Reader.step Reader.columns Reader.entries Reader.entriesFrom Reader.listFrom banked learnt bankOf
 starts-hold = refl
 
--- A kind, and what is expected of its entry in column 300, S in column 270, with id 5, address 68 and value 90: its bytes, and its line.
+-- A kind, and what is expected of its entry in column 300, S in column 270, with id 5, address 63, bank 3 and value 90: its bytes, and its
+-- line; and its line at address 64.
 pub record KindLine : Type 0 where
   pub kind : Kind
   pub laid : List ℕ
   pub line : List ℕ
+  pub fixed : List ℕ
 
--- the kind, its number, the fields id, address and value; its name, and how the three are printed
-kindLine : Kind → (number id address value : ℕ) → (name fields : String) → KindLine
-kindLine kind number id address value name fields =
+-- the kind, its number, the fields id, address, bank and value; its name, and how the four are printed, and at address 64
+kindLine : Kind → (number id address bank value : ℕ) → (name fields fixed : String) → KindLine
+kindLine kind number id address bank value name fields fixed =
     record {
       kind = kind;
-      laid = number ∷ 1 ∷ 44 ∷ 1 ∷ 14 ∷ id ∷ address ∷ value ∷ [];
+      laid = number ∷ 1 ∷ 44 ∷ 1 ∷ 14 ∷ id ∷ address ∷ bank ∷ value ∷ [];
       line = bytes name ++ bytes "\t300\t270\t" ++ bytes fields;
+      fixed = bytes name ++ bytes "\t300\t270\t" ++ bytes fixed;
     }
 
 pub kindLines : List KindLine
 kindLines =
-    kindLine Kind.lock 1 0 0 90 "lock" "-\t-\t90\n"
-    ∷ kindLine Kind.lockodd 2 0 0 0 "lockodd" "-\t-\t-\n"
-    ∷ kindLine Kind.badhead 3 0 0 0 "badhead" "-\t-\t-\n"
-    ∷ kindLine Kind.command 4 5 0 90 "command" "5\t-\t90\n"
-    ∷ kindLine Kind.pair 5 5 68 0 "pair" "5\t68\t-\n"
-    ∷ kindLine Kind.absent 6 5 68 0 "absent" "5\t68\t-\n"
-    ∷ kindLine Kind.refused 7 5 68 90 "refused" "5\t68\t90\n"
-    ∷ kindLine Kind.odd 8 5 68 90 "odd" "5\t68\t90\n"
-    ∷ kindLine Kind.mute 9 5 68 0 "mute" "5\t68\t-\n"
-    ∷ kindLine Kind.read 10 5 68 90 "read" "5\t68\t90\n"
-    ∷ kindLine Kind.written 11 5 68 90 "written" "5\t68\t90\n"
-    ∷ kindLine Kind.readbad 12 5 68 90 "readbad" "5\t68\t90\n"
-    ∷ kindLine Kind.writebad 13 5 68 90 "writebad" "5\t68\t90\n"
-    ∷ kindLine Kind.echo 14 5 68 90 "echo" "5\t68\t90\n"
-    ∷ kindLine Kind.end 15 0 0 0 "end" "-\t-\t-\n"
-    ∷ kindLine Kind.closed 16 5 68 0 "closed" "5\t68\t-\n"
+    kindLine Kind.lock 1 0 0 0 90 "lock" "-\t-\t-\t90\n" "-\t-\t-\t90\n"
+    ∷ kindLine Kind.lockodd 2 0 0 0 0 "lockodd" "-\t-\t-\t-\n" "-\t-\t-\t-\n"
+    ∷ kindLine Kind.badhead 3 0 0 0 0 "badhead" "-\t-\t-\t-\n" "-\t-\t-\t-\n"
+    ∷ kindLine Kind.command 4 5 0 0 90 "command" "5\t-\t-\t90\n" "5\t-\t-\t90\n"
+    ∷ kindLine Kind.pair 5 5 63 3 0 "pair" "5\t63\t3\t-\n" "5\t64\t-\t-\n"
+    ∷ kindLine Kind.absent 6 5 63 3 0 "absent" "5\t63\t3\t-\n" "5\t64\t-\t-\n"
+    ∷ kindLine Kind.refused 7 5 63 3 90 "refused" "5\t63\t3\t90\n" "5\t64\t-\t90\n"
+    ∷ kindLine Kind.odd 8 5 63 3 90 "odd" "5\t63\t3\t90\n" "5\t64\t-\t90\n"
+    ∷ kindLine Kind.mute 9 5 63 3 0 "mute" "5\t63\t3\t-\n" "5\t64\t-\t-\n"
+    ∷ kindLine Kind.read 10 5 63 3 90 "read" "5\t63\t3\t90\n" "5\t64\t-\t90\n"
+    ∷ kindLine Kind.written 11 5 63 3 90 "written" "5\t63\t3\t90\n" "5\t64\t-\t90\n"
+    ∷ kindLine Kind.readbad 12 5 63 3 90 "readbad" "5\t63\t3\t90\n" "5\t64\t-\t90\n"
+    ∷ kindLine Kind.writebad 13 5 63 3 90 "writebad" "5\t63\t3\t90\n" "5\t64\t-\t90\n"
+    ∷ kindLine Kind.echo 14 5 63 3 90 "echo" "5\t63\t3\t90\n" "5\t64\t-\t90\n"
+    ∷ kindLine Kind.end 15 0 0 0 0 "end" "-\t-\t-\t-\n" "-\t-\t-\t-\n"
+    ∷ kindLine Kind.closed 16 5 63 3 0 "closed" "5\t63\t3\t-\n" "5\t64\t-\t-\n"
     ∷ []
 
-pub kinds-hold : map (λ s. bytesOf current (placed (s .kind) 300 270 5 68 90)) kindLines ≡ map (λ s. s .laid) kindLines
-unfolding kindLines kindLine placed bytesOf fieldBytes inBytes
+pub kinds-hold : map (λ s. bytesOf current (placed (s .kind) 300 270 5 63 (bankOf (replicate 8 3) (event (s .kind) 5 63 90)) 90)) kindLines
+    ≡ map (λ s. s .laid) kindLines
+unfolding kindLines kindLine placed bankOf bytesOf fieldBytes inBytes
 kinds-hold = refl
 
 pub kinds-print : map (λ s. entryLines (entriesIn current (s .laid))) kindLines ≡ map (λ s. s .line) kindLines
 unfolding kindLines kindLine numbered pieces cut numberAt entriesIn entriesOf digitsIn decimal field cells entryLine entryLines
 kinds-print = refl
 
--- Refusal 12: lengths 0 to 16, of kind 1 throughout; kinds 0, 1, 16 and 17.
-lengths-hold : tabulate (λ n. isList current (replicate n 1)) 0 17
-    ≡ true ∷ replicate 7 false ++ true ∷ replicate 7 false ++ true ∷ []
+-- .. with address 64 in the place of 63, and in the place of 0, where it is not named.
+pub fixed-print : map (λ s. entryLines (entriesIn current (set (s .laid) 6 64))) kindLines ≡ map (λ s. s .fixed) kindLines
+unfolding kindLines kindLine numbered pieces cut numberAt entriesIn entriesOf digitsIn decimal field cells entryLine entryLines
+fixed-print = refl
+
+-- Refusal 12: lengths 0 to 18, of kind 1 throughout; kinds 0, 1, 16 and 17.
+lengths-hold : tabulate (λ n. isList current (replicate n 1)) 0 19
+    ≡ true ∷ replicate 8 false ++ true ∷ replicate 8 false ++ true ∷ []
 unfolding isList isWhole allEntries pieces cut numberAt numbered
 lengths-hold = refl
 
-numbers-hold : map (λ k. isList current (k ∷ replicate 7 0)) (0 ∷ 1 ∷ 16 ∷ 17 ∷ []) ≡ false ∷ true ∷ true ∷ false ∷ []
+numbers-hold : map (λ k. isList current (k ∷ replicate 8 0)) (0 ∷ 1 ∷ 16 ∷ 17 ∷ []) ≡ false ∷ true ∷ true ∷ false ∷ []
 unfolding isList isWhole allEntries pieces cut numberAt numbered
 numbers-hold = refl

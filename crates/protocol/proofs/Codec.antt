@@ -11,9 +11,10 @@ use borrow.Author.Tests.{ltb-true, leb-true}
 use lib.Dec.{ltb, leb, eqb}
 use lib.ListN.{length, take, drop, getD, replicate, length-append, length-drop, List·getD-map, getD-replicate}
 use lib.Seq.{drop-drop, drop-append-seam}
-use Rattle.protocol.specs.Entries.{Kind, lock, lockodd, badhead, command, pair, absent, refused, odd, mute, read, written, readbad, writebad, echo, end, closed, number, kinds, numbered, Entry}
+use Rattle.protocol.specs.Entries.{Kind, lock, lockodd, badhead, command, pair, absent, refused, odd, mute, read, written, readbad, writebad, echo, end, closed, number, kinds, numbered}
+use Rattle.protocol.specs.Banks.{Banked}
 use Rattle.protocol.specs.Pieces.{inBytes, numberAt, isWhole, joined}
-use Rattle.protocol.specs.Layout.{Field, kind, column, start, id, address, value, fields, order, Layout, narrow, width, widths, valueOf, entryBy, entryBytes, offset, fieldBytes, bytesOf, listBytes, fieldAt, entryAt, andMore, entriesOf, entriesIn, isEntry, allEntries, isList}
+use Rattle.protocol.specs.Layout.{Field, kind, column, start, id, address, bank, value, fields, order, Layout, narrow, width, widths, valueOf, entryBy, entryBytes, offset, fieldBytes, bytesOf, listBytes, fieldAt, entryAt, andMore, entriesOf, entriesIn, isEntry, allEntries, isList}
 use Rattle.protocol.proofs.Pieces.{bytes-length, number-behind, number-back, number-part, pieces-more, pieces-none, whole-more, whole-few}
 
 -- The table has each number once.
@@ -43,6 +44,7 @@ own column = refl
 own start = refl
 own id = refl
 own address = refl
+own bank = refl
 own value = refl
 
 low : (f : Field) → ltb (order f) (length fields) ≡ true
@@ -51,6 +53,7 @@ low column = refl
 low start = refl
 low id = refl
 low address = refl
+low bank = refl
 low value = refl
 
 every-field : (q : Field → Bool) → map q fields ≡ replicate (length fields) true → (f : Field) → q f ≡ true
@@ -86,13 +89,13 @@ module _ (l : Layout) where
       ∙ number-behind (width l g) (widths l (take n fs)) front behind
       ∙ nth-back n fs v rest (omega arith))
 
-  pub field-back : (e : Entry) (rest : List ℕ) (f : Field) → fieldAt l (bytesOf l e ++ rest) 0 f ≡ valueOf e f
+  pub field-back : (e : Banked) (rest : List ℕ) (f : Field) → fieldAt l (bytesOf l e ++ rest) 0 f ≡ valueOf e f
   unfolding bytesOf
   field-back e rest f = rw zero-add (rw (own f) at (nth-back (order f) fields (valueOf e) rest (ltb-true _ _ (low f))))
 
-  pub read-back : (e : Entry) (rest : List ℕ) → entryAt l (bytesOf l e ++ rest) 0 ≡ some e
+  pub read-back : (e : Banked) (rest : List ℕ) → entryAt l (bytesOf l e ++ rest) 0 ≡ some e
   read-back e rest =
-      ap (λ (v : Field → ℕ). entryBy (numbered (v kind) kinds) v) (fun-ext (field-back e rest)) ∙ rw (numbered-own (e .event .kind))
+      ap (λ (v : Field → ℕ). entryBy (numbered (v kind) kinds) v) (fun-ext (field-back e rest)) ∙ rw (numbered-own (e .entry .event .kind))
 
   -- So many bytes have an entry and a list.
   length-fields : (fs : List Field) (v : Field → ℕ) → length (fieldBytes l fs v) ≡ widths l fs
@@ -100,11 +103,11 @@ module _ (l : Layout) where
   length-fields [] v = refl
   length-fields (f ∷ fs) v = rw (length-append, bytes-length, length-fields fs v)
 
-  pub length-entry : (e : Entry) → length (bytesOf l e) ≡ entryBytes l
+  pub length-entry : (e : Banked) → length (bytesOf l e) ≡ entryBytes l
   unfolding bytesOf
   length-entry e = length-fields fields (valueOf e)
 
-  pub length-list : (es : List Entry) → length (listBytes l es) ≡ entryBytes l * length es
+  pub length-list : (es : List Banked) → length (listBytes l es) ≡ entryBytes l * length es
   unfolding listBytes joined
   length-list [] = rw mul-zero
   length-list (e ∷ es) = rw (length-append, length-entry e, length-list es, mul-suc) (omega arith)
@@ -155,21 +158,21 @@ module _ (l : Layout) where
           last false = refl
 
   -- A list's bytes give its entries again, and are a list.
-  module _ (e : Entry) (es : List Entry) where
+  module _ (e : Banked) (es : List Banked) where
     long : entryBytes l ≤ length (bytesOf l e ++ listBytes l es) - 0
     long = omega (arith, length-append (bytesOf l e) (listBytes l es), length-entry e)
 
     behind : drop (0 + entryBytes l) (bytesOf l e ++ listBytes l es) ≡ listBytes l es
     behind = rw (zero-add, ← length-entry e) (drop-append-seam (bytesOf l e) (listBytes l es))
 
-  pub entries-back : (es : List Entry) → entriesIn l (listBytes l es) ≡ es
+  pub entries-back : (es : List Banked) → entriesIn l (listBytes l es) ≡ es
   unfolding listBytes joined
   entries-back [] = entries-none [] 0 (some-bytes l)
   entries-back (e ∷ es) =
       rw (entries-more (bytesOf l e ++ listBytes l es) 0 (long e es), read-back e (listBytes l es), behind e es)
-      (ap (λ (k : List Entry). e ∷ k) (entries-back es))
+      (ap (λ (k : List Banked). e ∷ k) (entries-back es))
 
-  pub bytes-list : (es : List Entry) → isList l (listBytes l es) ≡ true
+  pub bytes-list : (es : List Banked) → isList l (listBytes l es) ≡ true
   unfolding listBytes joined
   bytes-list [] = list-none [] 0 (some-bytes l)
   bytes-list (e ∷ es) =

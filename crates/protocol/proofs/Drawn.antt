@@ -12,26 +12,26 @@ use Prim.Native.Nat.{ℕ}
 use Prim.Native.String.{String}
 use lib.Dec.{eqb}
 use lib.ListN.{replicate, set}
-use Rattle.protocol.specs.Limits.{registerCount}
+use Rattle.protocol.specs.Limits.{addressCount}
 use Rattle.protocol.specs.Bits.{bit, bits, push}
 use Rattle.protocol.specs.Rest.{judge, timer}
 use Rattle.protocol.specs.Division.{divideBit, divide, remainder, check, word, fits, byteOf}
 use Rattle.protocol.specs.Header.{header}
-use Rattle.protocol.specs.Memory.{Memory, allows, holds, stored, delayBy, delay}
+use Rattle.protocol.specs.Memory.{Memory, chosen, placeOf, allows, holds, stored, delayBy, delay}
 use Rattle.protocol.specs.Building.{Request, read, write, command, byteColumns, frameOf, rowFor}
 use Rattle.protocol.specs.Entries.{bytes}
 use Rattle.protocol.specs.Card.{blank}
 use Rattle.protocol.specs.Slave
 use Rattle.protocol.specs.Chain
 
--- A slave of which one register holds a value, the rest 0, with the same right everywhere ..
+-- A slave of one bank of which one register holds a value, the rest 0, with the same right everywhere ..
 unfoldable pub holding : (address value right : ℕ) → Memory
 holding address value right =
-    record { registers = set (replicate registerCount 0) address value; rights = replicate registerCount right; wait = 0 }
+    record { banks = 1; registers = set (replicate addressCount 0) address value; rights = replicate addressCount right; wait = 0 }
 
 -- .. and with another right at one address.
 except : (address right : ℕ) → Memory → Memory
-except address right k = record { registers = k .registers; rights = set (k .rights) address right; wait = k .wait }
+except address right k = record { banks = k .banks; registers = k .registers; rights = set (k .rights) address right; wait = k .wait }
 
 -- The bench card's slave, with a right: register 44 holds 5A ..
 unfoldable pub one : (right : ℕ) → List Memory
@@ -39,7 +39,8 @@ one right = holding 0x44 0x5A right ∷ []
 
 -- .. and with all rights and a waiting number.
 unfoldable pub slow : (wait : ℕ) → List Memory
-slow wait = let k : Memory = holding 0x44 0x5A 3 in record { registers = k .registers; rights = k .rights; wait = wait } ∷ []
+slow wait =
+    let k : Memory = holding 0x44 0x5A 3 in record { banks = k .banks; registers = k .registers; rights = k .rights; wait = wait } ∷ []
 
 -- Eight slaves, of which ID 7 may be read and holds 01 at address 7F, and so many more, which hold FF there.
 eightAnd : (more : ℕ) → List Memory
@@ -152,7 +153,7 @@ drawings =
     ∷ []
 
 pub answers-hold : map answered drawings ≡ map (λ d. drawn (d .cds)) drawings
-unfolding drawings draw answered columnsOf holding one slow eightAnd except word check remainder divide divideBit bit push fits byteOf header allows holds stored delayBy delay judge timer Slave.lock Slave.called Slave.more Slave.speak Slave.step Chain.pass Chain.answers Chain.switchedOn Chain.answersFrom
+unfolding drawings draw answered columnsOf holding one slow eightAnd except word check remainder divide divideBit bit push fits byteOf header chosen placeOf allows holds stored delayBy delay judge timer Slave.lock Slave.called Slave.more Slave.speak Slave.step Chain.pass Chain.answers Chain.switchedOn Chain.answersFrom
 answers-hold = refl
 
 pub record Build : Type 0 where

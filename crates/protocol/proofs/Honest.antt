@@ -12,11 +12,10 @@ use Rattle.protocol.specs.Rest.{Timed, judge}
 use Rattle.protocol.specs.Division.{dataBits, fits, byteOf}
 use Rattle.protocol.specs.Header.{Header, wrong, access, command, header}
 use Rattle.protocol.specs.Memory.{Memory, allows}
-use Rattle.protocol.specs.Entries.{Kind, Event, event, Place, onward}
+use Rattle.protocol.specs.Entries.{Kind, is, Event, event, Place, onward}
 use Rattle.protocol.specs.Slave.{Slave}
 use Rattle.protocol.specs.Chain.{column, memories}
 use Rattle.protocol.specs.Account.{Phase, deaf, locks, head, askR, askW, byteS, carries, askP, Told, slaveAt, delayAt, moreAt, headed, asked, tell, begun, step, along}
-use Rattle.protocol.specs.Replay.{is}
 use Rattle.laws.proofs.Every.{Every, IfAny, either}
 use Rattle.protocol.proofs.Machine.{says-so, every-note}
 

@@ -14,10 +14,12 @@ use lib.Seq.{take-add, drop-drop, length-take-le}
 use Rattle.protocol.specs.Limits.{restZeros}
 use Rattle.protocol.specs.Rest.{Timed, power, rest, frame, framed, powerOn, judge, timer}
 use Rattle.protocol.specs.Entries.{Event, Place, opened, onward, Entry, note}
-use Rattle.protocol.specs.Reader.{Phase, look, Column, col, columns, step, begun, entries, after, placeAfter, listFrom}
-use Rattle.protocol.specs.Late.{Zeros, FourteenAt, FirstFourteen, NoFourteen, fromColumn}
+use Rattle.protocol.specs.Reader.{Phase, look, Column, col, columns, step, begun, entries, after, placeAfter, entriesFrom, listFrom}
+use Rattle.protocol.specs.Banks.{Banked, unknown, learntAll, banked}
+use Rattle.protocol.specs.Late.{Zeros, FourteenAt, FirstFourteen, NoFourteen, fromColumn, Agrees}
 use Rattle.protocol.proofs.Rest.{Soon, soon-rest, fourteen}
 use Rattle.protocol.proofs.Machine.{soon-step, every-note}
+use Rattle.protocol.proofs.Banks.{every-banked, banked-append, length-learnt-all, agrees}
 use Rattle.laws.proofs.Every.{Every, IfAny, tested}
 
 -- The CDM row of the columns.
@@ -87,15 +89,15 @@ within s p (col m x ∷ cs) i j h k =
     here (some e) = omega arith
 
 -- Entries before column j are left out, and those from column i on are all kept.
-from-none : (i j : ℕ) (es fs : List Entry) → Every (Within i j) es → fromColumn j (es ++ fs) ≡ fromColumn j fs
+from-none : (i j : ℕ) (es fs : List Banked) → Every (λ e. Within i j (e .entry)) es → fromColumn j (es ++ fs) ≡ fromColumn j fs
 unfolding fromColumn
 from-none i j [] fs h = refl
-from-none i j (e ∷ es) fs h = rw (lt-leb j (e .place .column) (h .0 .1)) (from-none i j es fs (h .1))
+from-none i j (e ∷ es) fs h = rw (lt-leb j (e .entry .place .column) (h .0 .1)) (from-none i j es fs (h .1))
 
-from-all : (i j : ℕ) (es : List Entry) → Every (Within i j) es → fromColumn i es ≡ es
+from-all : (i j : ℕ) (es : List Banked) → Every (λ e. Within i j (e .entry)) es → fromColumn i es ≡ es
 unfolding fromColumn
 from-all i j [] h = refl
-from-all i j (e ∷ es) h = rw (le-leb i (e .place .column) (h .0 .0)) (ap (λ (l : List Entry). e ∷ l) (from-all i j es (h .1)))
+from-all i j (e ∷ es) h = rw (le-leb i (e .entry .place .column) (h .0 .0)) (ap (λ (l : List Banked). e ∷ l) (from-all i j es (h .1)))
 
 -- Fourteen zeros fit into the row that begins with them.
 zeros-length : (n : ℕ) (ms : List Bool) → Zeros n ms → n ≤ length ms
@@ -151,8 +153,8 @@ module _ (cs : List Column) (k j : ℕ) (at-or-after : k ≤ j) (zeros : Fourtee
       open-after powerOn (opened k) upto (λ e. refl) (ap framed rested)
       ∙ ap opened (columns-on powerOn (opened k) upto ∙ length-upto)
 
-  pub cut-at-rest : listFrom k cs ≡ before ++ after-rest
-  unfolding listFrom
+  pub cut-at-rest : entriesFrom k cs ≡ before ++ after-rest
+  unfolding entriesFrom
   cut-at-rest =
       let on : k + (j + restZeros - k) ≡ j + restZeros = omega arith in
       rw (take-append-drop, rested, there, drop-drop, on) at (entries-append powerOn (opened k) upto (drop (j + restZeros - k) (drop k cs)))
@@ -160,12 +162,26 @@ module _ (cs : List Column) (k j : ℕ) (at-or-after : k ≤ j) (zeros : Fourtee
   pub all-before : Every (Within k (j + restZeros)) before
   all-before = within powerOn (opened k) upto k (j + restZeros) (le-refl k) (omega (arith, length-upto))
 
-  -- So the entries from the end of the zeros on are those of the reader at rest.
-  pub from-fourteen : fromColumn (j + restZeros) (listFrom k cs) ≡ after-rest
+  -- With their banks: those of the entries at rest by what was shown before.
+  abbrev pub shown : List ℕ
+  shown = learntAll unknown before
+
+  pub list-at-rest : listFrom k cs ≡ banked unknown before ++ banked shown after-rest
+  unfolding listFrom
+  list-at-rest = rw cut-at-rest (banked-append unknown before after-rest)
+
+  -- So the entries from the end of the zeros on are those of the reader at rest ..
+  pub from-fourteen : fromColumn (j + restZeros) (listFrom k cs) ≡ banked shown after-rest
   from-fourteen =
-      rw cut-at-rest
-      (from-none k (j + restZeros) before after-rest all-before
-      ∙ from-all (j + restZeros) _ after-rest (within rest (opened (j + restZeros)) (drop (j + restZeros) cs) (j + restZeros) _ (le-refl _) (le-refl _)))
+      rw list-at-rest
+      (from-none k (j + restZeros) (banked unknown before) (banked shown after-rest) (every-banked _ unknown before all-before)
+      ∙ from-all (j + restZeros) _ (banked shown after-rest) (every-banked _ shown after-rest
+      (within rest (opened (j + restZeros)) (drop (j + restZeros) cs) (j + restZeros) _ (le-refl _) (le-refl _))))
+
+  -- .. which agree with those of a reader that has shown nothing before.
+  pub agrees-at-rest : Agrees (banked unknown after-rest) (banked shown after-rest)
+  agrees-at-rest =
+      agrees (λ id. false) unknown shown after-rest (sym (length-learnt-all unknown before)) (λ id t. absurd (false≢true t))
 
 -- Where ms is what a row holds from column n on, fourteen zeros of ms are the row's from there on.
 module _ (row ms : List Bool) (n k : ℕ) (e : drop n row ≡ ms) (h : k ≤ n) where
@@ -243,8 +259,8 @@ sleeps (col false x ∷ cs) z p h f =
 
 -- A reader let in at k lists what a reader at rest lists from the end of the first fourteen zeros on.
 pub from-first : (cs : List Column) (k j : ℕ) → FirstFourteen (masters cs) k j
-    → listFrom k cs ≡ entries rest (opened (j + restZeros)) (drop (j + restZeros) cs)
-unfolding listFrom
+    → entriesFrom k cs ≡ entries rest (opened (j + restZeros)) (drop (j + restZeros) cs)
+unfolding entriesFrom
 from-first cs k j f =
     let on : k + (j - k + restZeros) ≡ j + restZeros = omega arith in
     rw (drop-drop, on)

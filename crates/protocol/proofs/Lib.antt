@@ -2,6 +2,7 @@
 pub mod Card
 pub mod Drawn
 pub mod Cases
+pub mod BankCases
 pub mod Printed
 pub mod Division
 pub mod Words
@@ -15,6 +16,7 @@ pub mod Rest
 pub mod Machine
 pub mod Dress
 pub mod Locks
+pub mod Banks
 pub mod Late
 pub mod Start
 pub mod Opened
@@ -25,6 +27,7 @@ pub mod Sim
 pub mod Whole
 pub mod Zeros
 pub mod Walk
+pub mod Rightful
 pub mod Understood
 pub mod Twins
 pub mod Honest

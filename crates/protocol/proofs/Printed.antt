@@ -5,17 +5,18 @@ use mathlib.Core.List.{List, [], _∷_, map}
 use mathlib.Core.Option.{Option, none, some}
 use Prim.Native.Nat.{ℕ}
 use lib.ListN.{take, set}
-use Rattle.protocol.specs.Entries.{Kind, Entry, bytes}
+use Rattle.protocol.specs.Entries.{Kind, bytes}
+use Rattle.protocol.specs.Banks.{Banked}
 use Rattle.protocol.specs.Text.{columnLines, rowsText, digitsIn, decimal, field, cells, entryLine, entryLines, listText}
 use Rattle.protocol.specs.Fault.{stop, Fault, faultAt, textFault}
 use Rattle.protocol.proofs.Cases.{entry}
 
 -- Bench card: what the indexing program "prints whole".
-bench : List Entry
+bench : List Banked
 bench = entry Kind.lock 23 0 0 1 ∷ entry Kind.read 44 0 68 90 ∷ entry Kind.end 46 0 0 0 ∷ []
 
 bench-prints : listText bench
-    ≡ bytes "event\tcolumn\tstart\tid\taddress\tvalue\nlock\t23\t14\t-\t-\t1\nread\t44\t14\t0\t68\t90\nend\t46\t14\t-\t-\t-\n"
+    ≡ bytes "event\tcolumn\tstart\tid\taddress\tbank\tvalue\nlock\t23\t14\t-\t-\t-\t1\nread\t44\t14\t0\t68\t-\t90\nend\t46\t14\t-\t-\t-\t-\n"
 unfolding bench entry listText entryLines entryLine cells field decimal digitsIn
 bench-prints = refl
 

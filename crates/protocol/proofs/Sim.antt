@@ -17,17 +17,17 @@ use Rattle.protocol.specs.Machine.{taken, go, gives}
 use Rattle.protocol.specs.Division.{dataBits, topBit, word, fits, byteOf}
 use Rattle.protocol.specs.Header.{Header, wrong, access, command, header}
 use Rattle.protocol.specs.Memory.{Memory, allows, holds, stored, delay}
-use Rattle.protocol.specs.Entries.{Kind, Event, event}
+use Rattle.protocol.specs.Entries.{Kind, is, Event, event}
 use Rattle.protocol.specs.Slave
 use Rattle.protocol.specs.Chain
 use Rattle.protocol.specs.Reader
 use Rattle.protocol.specs.Account
-use Rattle.protocol.specs.Replay.{is, put, whenRead}
+use Rattle.protocol.specs.Replay.{put, whenRead}
 use Rattle.protocol.proofs.Words.{push-bit, word-lt, byte-word, byte-lt, LowId, header-low}
 use Rattle.protocol.proofs.Division.{accepted}
 use Rattle.laws.proofs.Every.{IfAny, tested, looked-up, beq-same, beq-not}
 use Rattle.laws.proofs.Places.{inside, outside, set-same, at-set, every-at}
-use Rattle.protocol.proofs.Memories.{Bytes, stored-set, bytes-stored, goes-on}
+use Rattle.protocol.proofs.Memories.{AllBytes, Bytes, byte-held, stored-set, bytes-stored, goes-on}
 use Rattle.protocol.proofs.Dress.{dress, passTo}
 use Rattle.protocol.proofs.Locks.{number, arrives, lock-column}
 use Rattle.protocol.proofs.Addressed.{framed, only, only-deaf, column-turns, column-nobody, column-one}
@@ -181,7 +181,7 @@ module _ (ks : List Memory) (bs : Bytes ks) (z z′ : ℕ) where
       to (only id (Slave.askR address)) false (rw (called-only id address low) at passes) (at-R id address low) refl bs tt
 
   byte-at : (id address : ℕ) (k : Memory) → getElem? ks id ≡ some k → holds k address < 2 ^ dataBits
-  byte-at id address k e = every-at (λ l. (a : ℕ) → holds l a < 2 ^ dataBits) ks id k bs e address
+  byte-at id address k e = byte-held k address (every-at AllBytes ks id k bs e)
 
   -- The reader's next bit of the byte that is sent.
   collects : (id address left got : ℕ) (k : Memory) → getElem? ks id ≡ some k → got ≡ word dataBits (holds k address) / 2 ^ suc left

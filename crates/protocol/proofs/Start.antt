@@ -14,7 +14,7 @@ use lib.Seq.{drop-drop}
 use Rattle.protocol.specs.Limits.{restZeros}
 use Rattle.protocol.specs.Rest.{Timed, power, rest, frame, timer, judge}
 use Rattle.protocol.specs.Entries.{Event, Place, opened, onward}
-use Rattle.protocol.specs.Reader.{Phase, look, begun, Column, col, step, entries, listFrom}
+use Rattle.protocol.specs.Reader.{Phase, look, begun, Column, col, step, entries, entriesFrom}
 use Rattle.protocol.specs.Late.{Zeros, Started}
 use Rattle.laws.proofs.Every.{Every, IfAny, tested, looked-up}
 use Rattle.protocol.proofs.Machine.{silent-outside, every-note}
@@ -171,8 +171,8 @@ module _ (row : List Bool) (k : ℕ) where
       next c e = let on : c + 1 ≡ suc c = omega arith in rw (drop-drop, on) at (ap (λ (l : List Bool). drop 1 l) e)
 
 -- Every start that a reader let in at k lists is the S of its frame.
-pub starts : (cs : List Column) (k : ℕ) → Every (λ e. Started (masters cs) k (e .place)) (listFrom k cs)
-unfolding listFrom
+pub starts : (cs : List Column) (k : ℕ) → Every (λ e. Started (masters cs) k (e .place)) (entriesFrom k cs)
+unfolding entriesFrom
 starts cs k =
     begun-entries (masters cs) k (power 0) (opened k) (drop k cs) (sym (masters-drop k cs)) (before-none (masters cs) k (le-refl k))
 

@@ -1,33 +1,35 @@
--- Two runs: chains with the same rights and waits whose registers differ only where no read is allowed answer alike. Each slave of the one
--- stands in the state of its twin in the other, and a slave at the S of a read may read there. Assumes nothing.
-use mathlib.Core.Path.{_≡_, refl, sym, ap₂, subst, _∙_}
+-- Two runs: chains with the same banks, rights, waits and bank registers whose registers differ only where no read is allowed answer alike.
+-- Each slave of the one stands in the state of its twin in the other, and a slave at the S of a read may read there. Assumes nothing.
+use mathlib.Core.Path.{_≡_, refl, sym, ap, ap₂, subst, _∙_}
 use mathlib.Core.Bool.{Bool, true, false, cond, not, _&&_, Bool·beq, false≢true}
 use mathlib.Core.List.{List, [], _∷_}
 use mathlib.Core.Option.{Option, none, some}
-use Prim.Native.Nat.{ℕ, zero, suc, _+_}
-use native.Mathlib.Nat.{suc-inj}
-use native.Mathlib.Omega.{arith}
+use Prim.Native.Nat.{ℕ, zero, suc, _+_, _*_}
 use lib.Dec.{ltb, eqb}
 use lib.ListN.{length, getD, set, length-set}
-use Rattle.protocol.specs.Limits.{headerColumns, lockLast}
-use Rattle.protocol.specs.Bits.{push}
+use Rattle.protocol.specs.Limits.{headerColumns, lockLast, bankSize}
+use Rattle.protocol.specs.Bits.{num, bit, push}
 use Rattle.protocol.specs.Rest.{Timed, rest, frame, powerOn}
 use Rattle.protocol.specs.Machine.{taken}
 use Rattle.protocol.specs.Division.{dataBits, fits, byteOf}
 use Rattle.protocol.specs.Header.{Header, wrong, access, command, header}
-use Rattle.protocol.specs.Memory.{Memory, allows, holds, stored, delay}
+use Rattle.protocol.specs.Memory.{Memory, chosen, placeOf, place, at, changed, allows, holds, stored, delay}
 use Rattle.protocol.specs.Slave.{Phase, deaf, locks, head, askR, askW, byteS, sends, takes, askP, Turn, turn, called, more, confirmed, speak, Slave, slave, Step, stepped, step, slaveOf}
 use Rattle.protocol.specs.Chain.{Passed, pass, column, answers, switchedOn}
 use Rattle.laws.proofs.Every.{either, Matched}
+use Rattle.laws.proofs.Places.{set-like}
 use Rattle.protocol.proofs.Memories.{goes-on}
 use Rattle.protocol.proofs.Machine.{At, judged}
 
--- The same rights, the same waits, as many registers, and the same byte in every register that may be read; of the others nothing is asked.
+-- As many banks, the same rights, waits and number in the bank register, as many registers, and the same byte in every register that may be
+-- read, wherever it lies; of the others nothing is asked.
 pub record Like (k k′ : Memory) : Type 0 where
-  pub rights : (write : Bool) (address : ℕ) → allows k write address ≡ allows k′ write address
+  pub banks : k .banks ≡ k′ .banks
+  pub rights : k .rights ≡ k′ .rights
   pub delays : (write : Bool) (nth : ℕ) → delay k write nth ≡ delay k′ write nth
   pub size : length (k .registers) ≡ length (k′ .registers)
-  pub readable : (address : ℕ) → allows k false address ≡ true → holds k address ≡ holds k′ address
+  pub bank : chosen k ≡ chosen k′
+  pub readable : (i : ℕ) → bit (num false) (getD (k .rights) i 0) ≡ true → getD (k .registers) i 0 ≡ getD (k′ .registers) i 0
 
 -- As many slaves, each like its twin.
 abbrev pub Alike : List Memory → List Memory → Type 0
@@ -66,25 +68,42 @@ readable : (k : Memory) (write : Bool) (address : ℕ) → allows k write addres
 readable k false address h = h
 readable k true address h = tt
 
--- The same write in both.
-set-like : (l l′ : List ℕ) (i j v : ℕ) → length l ≡ length l′ → getD l j 0 ≡ getD l′ j 0 → getD (set l i v) j 0 ≡ getD (set l′ i v) j 0
-set-like [] [] i j v n e = refl
-set-like [] (y ∷ l′) i j v n e = absurd (omega arith)
-set-like (x ∷ l) [] i j v n e = absurd (omega arith)
-set-like (x ∷ l) (y ∷ l′) zero zero v n e = refl
-set-like (x ∷ l) (y ∷ l′) zero (suc j) v n e = e
-set-like (x ∷ l) (y ∷ l′) (suc i) zero v n e = e
-set-like (x ∷ l) (y ∷ l′) (suc i) (suc j) v n e = set-like l l′ i j v (suc-inj n) e
+-- Their addresses show the same places, so that they allow the same and show the same where a read is allowed.
+module _ {k k′ : Memory} (l : Like k k′) where
+  same-place : (address : ℕ) → place k address ≡ place k′ address
+  same-place address = ap₂ (λ (b c : ℕ). placeOf b c address) (l .banks) (l .bank)
 
+  like-allows : (write : Bool) (address : ℕ) → allows k write address ≡ allows k′ write address
+  unfolding allows
+  like-allows write address = ap₂ (λ (r : List ℕ) (p : Option ℕ). bit (num write) (at r p)) (l .rights) (same-place address)
+
+  like-holds : (address : ℕ) → allows k false address ≡ true → holds k address ≡ holds k′ address
+  unfolding allows holds
+  like-holds address h = go (place k address) h ∙ ap (at (k′ .registers)) (same-place address)
+    where
+      go : (p : Option ℕ) → bit (num false) (at (k .rights) p) ≡ true → at (k .registers) p ≡ at (k′ .registers) p
+      go none h = refl
+      go (some i) h = l .readable i h
+
+-- The same write in both.
 like-stored : (k k′ : Memory) (address v : ℕ) → Like k k′ → Like (stored k address v) (stored k′ address v)
-unfolding allows holds stored delay
-like-stored k k′ address v l =
-    record {
-      rights = l .rights;
-      delays = l .delays;
-      size = length-set (k .registers) address v ∙ l .size ∙ sym (length-set (k′ .registers) address v);
-      readable = λ a h. set-like (k .registers) (k′ .registers) address a v (l .size) (l .readable a h);
-    }
+unfolding stored chosen delay
+like-stored k k′ address v l = rw (← same-place l address) (go (place k address))
+  where
+    go : (p : Option ℕ) → Like (changed k p v) (changed k′ p v)
+    go none = l
+    go (some i) =
+        record {
+          banks = l .banks;
+          rights = l .rights;
+          delays = l .delays;
+          size = length-set (k .registers) i v ∙ l .size ∙ sym (length-set (k′ .registers) i v);
+          bank =
+              set-like (k .registers) (k′ .registers) i (bankSize * k .banks) v 0 (l .size)
+              (l .bank ∙ ap (λ (b : ℕ). getD (k′ .registers) (bankSize * b) 0) (sym (l .banks)))
+              ∙ ap (λ (b : ℕ). getD (set (k′ .registers) i v) (bankSize * b) 0) (l .banks);
+          readable = λ j h. set-like (k .registers) (k′ .registers) i j v 0 (l .size) (l .readable j h);
+        }
 
 like-took : (k k′ : Memory) (address w : ℕ) → Like k k′ → (good : Bool)
     → Like (cond good (stored k address (byteOf w)) k) (cond good (stored k′ address (byteOf w)) k′)
@@ -103,12 +122,12 @@ second false b h = absurd (false≢true h)
 
 same-more : (k k′ : Memory) (write : Bool) (address nth : ℕ) → Like k k′ → more k′ write address nth ≡ more k write address nth
 unfolding more
-same-more k k′ write address nth l = rw (l .rights write (address + 1))
+same-more k k′ write address nth l = rw (like-allows l write (address + 1))
 
 -- S is confirmed, or not yet.
 same-confirmed : (k k′ : Memory) (write : Bool) (address nth : ℕ) → Like k k′ → Readable k write address
     → SameTurn (turn (confirmed k write address nth) true k) (turn (confirmed k′ write address nth) true k′)
-same-confirmed k k′ false address nth l o = rw (← l .readable address o) (same _ true l tt)
+same-confirmed k k′ false address nth l o = rw (← like-holds l address o) (same _ true l tt)
 same-confirmed k k′ true address nth l o = same _ true l tt
 
 waits : (k k′ : Memory) (write : Bool) (address nth unconfirmed : ℕ) (test : Bool) → Like k k′ → Readable k write address
@@ -126,7 +145,7 @@ same-turn k k′ (head column so-far number) m b l o =
     same _ b l (either (Open k) (ltb column headerColumns) tt (open-called k (header (push so-far m)) number))
 same-turn k k′ (askR address) m b l o = same (askW address m) m l tt
 same-turn k k′ (askW address r) m b l o =
-    rw (← l .rights m address) (decides k k′ m address 1 m (not m) (not (Bool·beq r m) && allows k m address) l (second (not (Bool·beq r m)) _))
+    rw (← like-allows l m address) (decides k k′ m address 1 m (not m) (not (Bool·beq r m) && allows k m address) l (second (not (Bool·beq r m)) _))
 same-turn k k′ (byteS write address nth unconfirmed) false b l o = same deaf false l tt
 same-turn k k′ (byteS write address nth unconfirmed) true b l o =
     rw (← l .delays write nth) (waits k k′ write address nth unconfirmed (ltb unconfirmed (delay k write nth)) l o)

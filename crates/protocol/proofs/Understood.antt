@@ -4,13 +4,13 @@ use mathlib.Core.Path.{_≡_, refl, ap, ap₂, _∙_}
 use mathlib.Core.Bool.{Bool, true, false, not, cond}
 use mathlib.Core.List.{List, [], _∷_, _++_, append-nil, head-eq-of-cons-eq, tail-eq-of-cons-eq}
 use mathlib.Core.Option.{some}
-use Prim.Native.Nat.{ℕ, zero, suc, _+_, _*_, _/_, _^_, _<_}
+use Prim.Native.Nat.{ℕ, zero, suc, _+_, _*_, _/_, _^_, _≤_, _<_}
 use native.Mathlib.Nat.{add-zero, add-assoc, mul-suc, div-eq-of-lt, div-one}
 use native.Mathlib.Numerals.{add-one}
 use native.Mathlib.Omega.{arith}
 use borrow.Author.Tests.{lt-ltb, le-ltb, ne-eqb}
-use lib.ListN.{length, replicate, getElem?, set}
-use Rattle.protocol.specs.Limits.{restZeros, headerColumns, registerCount, byteLimit}
+use lib.ListN.{length, replicate, getElem?}
+use Rattle.protocol.specs.Limits.{restZeros, headerColumns, addressCount, byteLimit}
 use Rattle.protocol.specs.Bits.{bits, push}
 use Rattle.protocol.specs.Rest.{judge, timer}
 use Rattle.protocol.specs.Division.{headerBits, dataBits, topBit, word, fits, byteOf}
@@ -20,14 +20,14 @@ use Rattle.protocol.specs.Slave.{more}
 use Rattle.protocol.specs.Building.{frameHead, byteColumns, frameOf, rowFor}
 use Rattle.protocol.specs.Building
 use Rattle.protocol.specs.Entries.{Kind, event, Entry}
-use Rattle.protocol.specs.Account.{Phase, askR, byteS, carries, askP, Told, headed, asked, tell, begun, step, account}
+use Rattle.protocol.specs.Account.{Phase, askR, byteS, carries, askP, Told, headed, asked, tell, begun, step, entriesAlong}
 use Rattle.protocol.specs.Replay.{put}
 use Rattle.protocol.specs.Understood.{frameAt, inFrame, Allowed, lockShown, commandShown, delayed, byteColumn, byteShown, bytesShown, standing, closing}
 use Rattle.protocol.proofs.Words.{push-bit, word-lt, byte-word, header-access, header-command}
 use Rattle.protocol.proofs.Division.{accepted}
 use Rattle.laws.proofs.Every.{Every, tested, beq-not}
 use Rattle.laws.proofs.Places.{at-set}
-use Rattle.protocol.proofs.Memories.{Bytes, stored-set}
+use Rattle.protocol.proofs.Memories.{Bytes, stored-set, allows-ahead}
 use Rattle.protocol.proofs.Sim.{kept}
 use Rattle.protocol.proofs.Zeros.{asking, twelveOf, carrying, frame-asking, calm, header-calm, access-calm}
 use Rattle.protocol.proofs.Walk.{Walk, noted, walk, phases, account-walk, walk-phases}
@@ -66,17 +66,35 @@ module _ (ks : List Memory) (v : ℕ) (next : List Bool) (small : v < 2 ^ header
 
   -- Fourteen zeros and S before it.
   frame-head-shown : Bytes ks → calm 0 (frameHead v ++ next) ≡ true
-      → account ks (replicate restZeros false ++ (frameHead v ++ next)) ≡ lockShown ks ∷ from-header (header (word headerBits v)) .told
+      → entriesAlong ks (replicate restZeros false ++ (frameHead v ++ next)) ≡ lockShown ks ∷ from-header (header (word headerBits v)) .told
   unfolding walk step judge timer calm
   frame-head-shown bs z =
       account-walk ks _ bs
       ∙ ap (λ (w : Walk _). w .told) (walk-phases ks begun 0 (frameAt (restZeros + 1)) (bits headerColumns (word headerBits v) ++ next) z)
       ∙ ap (λ (w : Walk _). w .told) header-shown
 
--- The memory after a byte; rights and waiting number are what they were.
+-- The memory after a byte; all but its registers is what it was ..
 after : (write : Bool) → Memory → (address v : ℕ) → Memory
 after write k address v =
-    record { registers = cond write (set (k .registers) address v) (k .registers); rights = k .rights; wait = k .wait }
+    record {
+      banks = k .banks;
+      registers = cond write (stored k address v .registers) (k .registers);
+      rights = k .rights;
+      wait = k .wait;
+    }
+
+-- .. and what is allowed at the addresses that follow.
+after-allows : (write : Bool) (k : Memory) (address v b : ℕ) → address < b → allows (after write k address v) write b ≡ allows k write b
+unfolding after stored
+after-allows false k address v b h = refl
+after-allows true k address v b h = allows-ahead k true address v b h
+
+-- The slave holds the ID and allows the access from byte i on: what was written may have changed the bank of the addresses before it.
+record Ahead (ks : List Memory) (k : Memory) (write : Bool) (id address i count : ℕ) : Type 0 where
+  held : getElem? ks id ≡ some k
+  there : address + count ≤ addressCount
+  few : count ≤ byteLimit
+  allowed : (j : ℕ) → i ≤ j → j < count → allows k write (address + j) ≡ true
 
 -- The bytes of a read are those that stand there; those of a write are below 256.
 Carried : (write : Bool) → Memory → (address : ℕ) → List ℕ → Type 0
@@ -111,7 +129,7 @@ confirmed-column wait true (suc i) = rw (mul-suc wait i, ne-eqb (suc i + 1) 1 (�
 
 -- Byte i up to its P, behind a confirmed S.
 carried-shown : (write : Bool) (i v : ℕ) (vs : List ℕ) (next : List Bool) {ks : List Memory} {k : Memory} {id address count : ℕ}
-    → Allowed ks k write id address count → Carried write k (address + i) (v ∷ vs)
+    → Ahead ks k write id address i count → Carried write k (address + i) (v ∷ vs)
     → phases ks (carries write id (address + i) (i + 1) topBit 0) (frameAt (suc (byteColumn (k .wait) write i))) (twelveOf write v ++ next)
     ≡ gives ks (byteShown (k .wait) write id address i v) (askP write true id (address + i) (i + 1)) next
 unfolding phases tell bits pushed put Carried standing
@@ -125,16 +143,17 @@ carried-shown true i v vs next {ks} {k} {id} {address} a h =
     {y = byteColumn (k .wait) true i + (topBit + 1)} (omega arith) (collected (topBit + 1) (word dataBits v) (omega arith) l)
     ∙ rw (accepted dataBits v, byte-word v (h .0))
 
-module _ {ks : List Memory} {k : Memory} {write : Bool} {id address count : ℕ} (a : Allowed ks k write id address count) where
-  -- R and W, and on to byte 0.
-  asked-shown : (next : List Bool) → 0 < count
-      → phases ks (askR id address) (frameAt (restZeros + headerColumns + 1)) (not write ∷ write ∷ next)
-      ≡ phases ks (byteS write id (address + 0) 1 0) (frameAt (askedColumn (k .wait) write 0)) next
-  unfolding phases tell asked
-  asked-shown next h =
-      let r : allows k write address ≡ true = rw add-zero at (a .allowed 0 h) in
-      rw (beq-not write, a .held, r, add-zero address, first-asked (k .wait) write)
+-- R and W, and on to byte 0.
+asked-shown : {ks : List Memory} {k : Memory} {write : Bool} {id address count : ℕ} → Ahead ks k write id address 0 count
+    → (next : List Bool) → 0 < count
+    → phases ks (askR id address) (frameAt (restZeros + headerColumns + 1)) (not write ∷ write ∷ next)
+    ≡ phases ks (byteS write id (address + 0) 1 0) (frameAt (askedColumn (k .wait) write 0)) next
+unfolding phases tell asked
+asked-shown {k = k} {write} {address = address} a next h =
+    let r : allows k write address ≡ true = rw add-zero at (a .allowed 0 (omega arith) h) in
+    rw (beq-not write, a .held, r, add-zero address, first-asked (k .wait) write)
 
+module _ {ks : List Memory} {k : Memory} {write : Bool} {id address i count : ℕ} (a : Ahead ks k write id address i count) where
   -- S, as often as it is not confirmed, and then confirmed.
   waits-shown : (nth at : ℕ) (next : List Bool) (left unconfirmed c : ℕ) → unconfirmed + left ≡ delay k write nth
       → phases ks (byteS write id at nth unconfirmed) (frameAt c) (replicate left true ++ true ∷ next)
@@ -147,12 +166,12 @@ module _ {ks : List Memory} {k : Memory} {write : Bool} {id address count : ℕ}
       ∙ ap (λ (d : ℕ). phases ks (carries write id at nth topBit 0) (frameAt d) next) (omega arith))
 
   -- Byte i up to its P.
-  byte-shown : (i v : ℕ) (vs : List ℕ) → Carried write k (address + i) (v ∷ vs)
+  byte-shown : (v : ℕ) (vs : List ℕ) → Carried write k (address + i) (v ∷ vs)
       → phases ks (byteS write id (address + i) (i + 1) 0) (frameAt (askedColumn (k .wait) write i)) (carrying write (k .wait) (i + 1) (v ∷ vs))
       ≡ gives ks (byteShown (k .wait) write id address i v) (askP write true id (address + i) (i + 1))
       (false ∷ carrying write (k .wait) (i + 1 + 1) vs)
   unfolding byteColumns delay
-  byte-shown i v vs h =
+  byte-shown v vs h =
       waits-shown (i + 1) (address + i) _ (delayBy (k .wait) write (i + 1)) 0 (askedColumn (k .wait) write i) (omega arith)
       ∙ rw (confirmed-column (k .wait) write i) (carried-shown write i v vs (false ∷ carrying write (k .wait) (i + 1 + 1) vs) a h)
 
@@ -166,41 +185,56 @@ module _ {ks : List Memory} {k : Memory} {write : Bool} {id address count : ℕ}
       rw (a .held, c) (tested (more k write (address + i) (i + 1)) (λ q. rw q) (λ q. rw q))
 
   -- .. or not, and on to the next.
-  goes-shown : (i : ℕ) (next : List Bool) → i + 1 < count
-      → phases ks (askP write true id (address + i) (i + 1)) (frameAt (suc (byteColumn (k .wait) write i + (topBit + 1)))) (false ∷ next)
-      ≡ phases ks (byteS write id (address + (i + 1)) (i + 1 + 1) 0) (frameAt (askedColumn (k .wait) write (i + 1))) next
+  goes-shown : (n : ℕ) (next : List Bool) → n + 1 ≡ i → i < count
+      → phases ks (askP write true id (address + n) (n + 1)) (frameAt (suc (byteColumn (k .wait) write n + (topBit + 1)))) (false ∷ next)
+      ≡ phases ks (byteS write id (address + (n + 1)) (n + 1 + 1) 0) (frameAt (askedColumn (k .wait) write (n + 1))) next
   unfolding phases tell more
-  goes-shown i next h =
-      let c : suc (suc (byteColumn (k .wait) write i + (topBit + 1))) ≡ askedColumn (k .wait) write (i + 1) = rw (add-one i) (omega arith) in
-      let there : address + (i + 1) < registerCount = omega arith in
-      let few : i + 1 < byteLimit = omega arith in
-      rw (a .held, add-assoc address i 1, lt-ltb _ _ there, a .allowed (i + 1) h, lt-ltb _ _ few, c)
+  goes-shown n next e h =
+      let c : suc (suc (byteColumn (k .wait) write n + (topBit + 1))) ≡ askedColumn (k .wait) write (n + 1) = rw (add-one n) (omega arith) in
+      let there : address + (n + 1) < addressCount = omega (arith, a .there) in
+      let few : n + 1 < byteLimit = omega (arith, a .few) in
+      rw (a .held, add-assoc address n 1, lt-ltb _ _ there, a .allowed (n + 1) (omega arith) (omega arith), lt-ltb _ _ few, c)
 
-  -- A byte takes no right away.
-  allowed-after : (i v : ℕ)
-      → Allowed (put ks (byteShown (k .wait) write id address i v .event)) (after write k (address + i) v) write id address count
-  unfolding put after stored allows
-  allowed-after i v =
-      record { numbered = a .numbered; held = held write; there = a .there; few = a .few; allowed = a .allowed }
+  -- A byte takes no right away at those that follow.
+  ahead-after : (v : ℕ)
+      → Ahead (put ks (byteShown (k .wait) write id address i v .event)) (after write k (address + i) v) write id address (i + 1) count
+  unfolding put after stored
+  ahead-after v =
+      record {
+        held = held write;
+        there = a .there;
+        few = a .few;
+        allowed = λ j l h. after-allows write k (address + i) v (address + j) (omega arith) ∙ a .allowed j (omega arith) h;
+      }
     where
       held : (w : Bool) → getElem? (put ks (byteShown (k .wait) w id address i v .event)) id ≡ some (after w k (address + i) v)
       held false = a .held
       held true = rw (stored-set ks id (address + i) v k (a .held)) (at-set ks id k (stored k (address + i) v) (a .held))
 
+-- Whether P closes hangs on what is allowed at the next address, and so not on the bytes written before.
+closing-after : (write : Bool) (k : Memory) (id address i n v : ℕ) → i ≤ n
+    → closing (after write k (address + i) v) write id address n ≡ closing k write id address n
+unfolding more after
+closing-after write k id address i n v h = rw (after-allows write k (address + i) v (address + n + 1) (omega arith))
+
 -- Byte i and those after it, the last of them byte n.
 bytes-shown : (write : Bool) (i v n : ℕ) (vs : List ℕ) {ks : List Memory} {k : Memory} {id address : ℕ} → i + length vs ≡ n
-    → Allowed ks k write id address (suc n) → Carried write k (address + i) (v ∷ vs)
+    → Ahead ks k write id address i (suc n) → Carried write k (address + i) (v ∷ vs)
     → phases ks (byteS write id (address + i) (i + 1) 0) (frameAt (askedColumn (k .wait) write i))
     (carrying write (k .wait) (i + 1) (v ∷ vs)) .told
     ≡ bytesShown (k .wait) write id address i (v ∷ vs) ++ closing k write id address n
-unfolding bytesShown byteColumns more allows after
-bytes-shown write i v n [] e a h =
+unfolding bytesShown byteColumns after
+bytes-shown write i v n [] {k = k} {id} {address} e a h =
     let last : n ≡ i = omega arith in
-    rw (byte-shown a i v [] h, last-shown (allowed-after a i v) i, last)
+    rw (byte-shown a v [] h, last-shown (ahead-after a v) i, last, closing-after write k id address i i v (omega arith))
 bytes-shown write i v n (w ∷ vs) {k = k} {id} {address} e a h =
-    rw (byte-shown a i v (w ∷ vs) h, goes-shown (allowed-after a i v) i (carrying write (k .wait) (i + 1 + 1) (w ∷ vs)) (omega arith))
+    rw (
+      byte-shown a v (w ∷ vs) h,
+      goes-shown (ahead-after a v) i (carrying write (k .wait) (i + 1 + 1) (w ∷ vs)) (omega arith) (omega arith),
+      ← closing-after write k id address i n v (omega arith),
+    )
     (ap (λ (l : List Entry). byteShown (k .wait) write id address i v ∷ l)
-    (bytes-shown write (i + 1) w n vs (omega arith) (allowed-after a i v) (carried-next write k address i v (w ∷ vs) h)))
+    (bytes-shown write (i + 1) w n vs (omega arith) (ahead-after a v) (carried-next write k address i v (w ∷ vs) h)))
 
 length-standing : (k : Memory) (address n : ℕ) → length (standing k address n) ≡ n
 unfolding standing
@@ -210,22 +244,24 @@ length-standing k address (suc n) = ap suc (length-standing k (address + 1) n)
 -- The accounts of the three requests.
 module _ (ks : List Memory) (bs : Bytes ks) where
   access-shown : (write : Bool) (k : Memory) (id address v : ℕ) (vs : List ℕ) → Allowed ks k write id address (suc (length vs))
-      → Carried write k address (v ∷ vs) → account ks (rowFor (asking write id address (v ∷ vs) (k .wait)))
+      → Carried write k address (v ∷ vs) → entriesAlong ks (rowFor (asking write id address (v ∷ vs) (k .wait)))
       ≡ lockShown ks ∷ bytesShown (k .wait) write id address 0 (v ∷ vs) ++ closing k write id address (length vs)
   unfolding rowFor headed from-header
   access-shown write k id address v vs a h =
       let next : List Bool = carrying write (k .wait) 1 (v ∷ vs) in
+      let all : Ahead ks k write id address 0 (suc (length vs))
+      = record { held = a .held; there = a .there; few = a .few; allowed = λ j l u. a .allowed j u } in
       rw (
         frame-asking write id address (v ∷ vs) (k .wait),
         frame-head-shown ks (accessWord id address) (not write ∷ write ∷ next) (omega arith) bs
             (rw frame-asking at (access-calm write id address (v ∷ vs) (k .wait) (a .numbered) (omega arith))),
         header-access id address (a .numbered) (omega arith),
-        asked-shown a next (omega arith),
-        bytes-shown write 0 v (length vs) vs (omega arith) a (rw add-zero h),
+        asked-shown all next (omega arith),
+        bytes-shown write 0 v (length vs) vs (omega arith) all (rw add-zero h),
       )
 
   pub read-shown : (k : Memory) (id address n : ℕ) → Allowed ks k false id address (suc n)
-      → account ks (rowFor (Building.read id address (suc n) (k .wait)))
+      → entriesAlong ks (rowFor (Building.read id address (suc n) (k .wait)))
       ≡ lockShown ks ∷ bytesShown (k .wait) false id address 0 (standing k address (suc n)) ++ closing k false id address n
   unfolding standing Carried
   read-shown k id address n a =
@@ -233,13 +269,13 @@ module _ (ks : List Memory) (bs : Bytes ks) where
       rw l at (access-shown false k id address (holds k address) (standing k (address + 1) n) (rw l a) (rw l))
 
   pub write-shown : (k : Memory) (id address v : ℕ) (vs : List ℕ) → Allowed ks k true id address (suc (length vs))
-      → Every (λ v. v < 2 ^ dataBits) (v ∷ vs) → account ks (rowFor (Building.write id address (v ∷ vs) (k .wait)))
+      → Every (λ v. v < 2 ^ dataBits) (v ∷ vs) → entriesAlong ks (rowFor (Building.write id address (v ∷ vs) (k .wait)))
       ≡ lockShown ks ∷ bytesShown (k .wait) true id address 0 (v ∷ vs) ++ closing k true id address (length vs)
   unfolding Carried
   write-shown k id address v vs a h = access-shown true k id address v vs a h
 
   pub command-shown : (ids cmd : ℕ) → ids < 2 ^ 8 → cmd < 2 ^ 2
-      → account ks (rowFor (Building.command ids cmd)) ≡ lockShown ks ∷ commandShown ids cmd ∷ []
+      → entriesAlong ks (rowFor (Building.command ids cmd)) ≡ lockShown ks ∷ commandShown ids cmd ∷ []
   unfolding rowFor frameOf headed from-header phases
   command-shown ids cmd h l =
       let v : ℕ = commandWord ids cmd in

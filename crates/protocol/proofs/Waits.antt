@@ -13,12 +13,11 @@ use Rattle.protocol.specs.Rest.{Timed, powerOn, judge}
 use Rattle.protocol.specs.Division.{dataBits, fits, byteOf}
 use Rattle.protocol.specs.Header.{Header, wrong, access, command, header}
 use Rattle.protocol.specs.Memory.{Memory, allows, stored, delayBy, delay}
-use Rattle.protocol.specs.Entries.{Kind, Event, event, Place, opened, onward}
+use Rattle.protocol.specs.Entries.{Kind, is, Event, event, Place, opened, onward}
 use Rattle.protocol.specs.Slave
 use Rattle.protocol.specs.Slave.{Slave, Reply, turn, confirmed}
 use Rattle.protocol.specs.Chain.{pass, column, memories, switchedOn}
-use Rattle.protocol.specs.Account.{Phase, deaf, locks, head, askR, askW, byteS, carries, askP, Told, slaveAt, delayAt, moreAt, headed, asked, tell, begun, Step, step, along, account}
-use Rattle.protocol.specs.Replay.{is}
+use Rattle.protocol.specs.Account.{Phase, deaf, locks, head, askR, askW, byteS, carries, askP, Told, slaveAt, delayAt, moreAt, headed, asked, tell, begun, Step, step, along, entriesAlong}
 use Rattle.laws.proofs.Every.{Every, IfAny, either, looked-up}
 use Rattle.laws.proofs.Places.{every-at}
 use Rattle.protocol.proofs.Machine.{At, says-so, keeps, every-note}
@@ -147,6 +146,6 @@ loud-along (m ∷ row) ss s p hs h =
     (loud-along row (column ss m .slaves) (t .state) next (prompt-pass ss m false hs) (kept .0))
 
 -- An account over slaves that do not wait holds no `mute`.
-pub loud : (ks : List Memory) (row : List Bool) → Every Prompt ks → Every (λ e. Loud (e .event)) (account ks row)
-unfolding account
+pub loud : (ks : List Memory) (row : List Bool) → Every Prompt ks → Every (λ e. Loud (e .event)) (entriesAlong ks row)
+unfolding entriesAlong
 loud ks row hs = loud-along row (switchedOn ks) powerOn (opened 0) (prompt-on ks hs) tt

@@ -12,7 +12,7 @@ use Rattle.protocol.specs.Memory.{Memory}
 use Rattle.protocol.specs.Entries.{Event, Place, opened, onward, Entry, note}
 use Rattle.protocol.specs.Slave
 use Rattle.protocol.specs.Reader
-use Rattle.protocol.specs.Account.{Phase, Told, Step, tell, step, along, account}
+use Rattle.protocol.specs.Account.{Phase, Told, Step, tell, step, along, entriesAlong}
 use Rattle.laws.proofs.Every.{tested}
 use Rattle.protocol.proofs.Memories.{Bytes}
 use Rattle.protocol.proofs.Dress.{dress, memories-dress, switchedOn-dress}
@@ -52,8 +52,8 @@ along-walk (m ∷ row) ks bs {a} {f} {r} s p =
     rw (memories-dress f 0 ks, n .passes) (ap (note p (step ks a m .says)) (along-walk row _ (n .bytes) (n .onward) (onward (step ks a m .state) p)))
 
 -- .. and so from power-on.
-pub account-walk : (ks : List Memory) (row : List Bool) → Bytes ks → account ks row ≡ walk ks powerOn (opened 0) row .told
-unfolding account
+pub account-walk : (ks : List Memory) (row : List Bool) → Bytes ks → entriesAlong ks row ≡ walk ks powerOn (opened 0) row .told
+unfolding entriesAlong
 account-walk ks row bs = rw (switchedOn-dress 0 ks) (along-walk row ks bs (waiting 0) (opened 0))
 
 -- In a frame, with z zeros counted.

@@ -11,12 +11,12 @@ use lib.ListN.{length}
 use Rattle.protocol.specs.Limits.{lockFirst}
 use Rattle.protocol.specs.Rest.{Timed, power, rest, frame, framed, timer, judge}
 use Rattle.protocol.specs.Memory.{Memory}
-use Rattle.protocol.specs.Entries.{Kind, Event, Place, opened, onward, Entry, note}
+use Rattle.protocol.specs.Entries.{Kind, is, Event, Place, opened, onward, Entry, note}
 use Rattle.protocol.specs.Slave
 use Rattle.protocol.specs.Chain
 use Rattle.protocol.specs.Reader
 use Rattle.protocol.specs.Account
-use Rattle.protocol.specs.Replay.{is, put, replay, whenRead, Shows}
+use Rattle.protocol.specs.Replay.{put, replay, whenRead, Shows}
 use Rattle.laws.proofs.Every.{IfAny, looked-up}
 use Rattle.protocol.proofs.Memories.{Bytes}
 use Rattle.protocol.proofs.Dress.{dress, stepTo, column-dress, memories-dress, switchedOn-dress}
@@ -104,6 +104,6 @@ faithful (m ∷ row) ks bs {a} {f} {r} s p =
 
 -- .. and so from power-on.
 pub whole : (ks : List Memory) (row : List Bool) → Bytes ks
-    → Faithful ks (Account.account ks row) (Reader.listFrom 0 (Reader.columns row (Chain.answersFrom ks row))) (Chain.memoriesAfter ks row)
-unfolding Account.account Reader.listFrom Chain.answersFrom Chain.memoriesAfter
+    → Faithful ks (Account.entriesAlong ks row) (Reader.entriesFrom 0 (Reader.columns row (Chain.answersFrom ks row))) (Chain.memoriesAfter ks row)
+unfolding Account.entriesAlong Reader.entriesFrom Chain.answersFrom Chain.memoriesAfter
 whole ks row bs = rw (switchedOn-dress 0 ks) (faithful row ks bs (waiting 0) (opened 0))

@@ -9,7 +9,7 @@ use borrow.Author.Tests.{lt-ltb, ltb-true}
 use lib.Dec.{ltb}
 use lib.ListN.{length, length-append, replicate}
 use lib.Seq.{append-snoc}
-use Rattle.protocol.specs.Limits.{restZeros, idCount, registerCount}
+use Rattle.protocol.specs.Limits.{restZeros, idCount, addressCount}
 use Rattle.protocol.specs.Bits.{bit, bits}
 use Rattle.protocol.specs.Division.{headerBits, dataBits, checkWidth, topBit, divideBit, divide, remainder, check, word}
 use Rattle.protocol.specs.Header.{accessWord}
@@ -114,7 +114,7 @@ header-calm v h =
     (λ q. absurd (false≢true (rw (calm-append, q) at (header-and-zero v h))))
 
 -- .. and neither does that of a read or a write.
-pub access-calm : (write : Bool) (id address : ℕ) (vs : List ℕ) (wait : ℕ) → id < idCount → address < registerCount
+pub access-calm : (write : Bool) (id address : ℕ) (vs : List ℕ) (wait : ℕ) → id < idCount → address < addressCount
     → calm 0 (frameOf (asking write id address vs wait)) ≡ true
 unfolding calm
 access-calm false id address vs wait h k =

@@ -17,6 +17,7 @@ use Rattle.protocol.specs.Memory.{Memory, allows, holds, delay}
 use Rattle.protocol.specs.Slave.{Slave, more}
 use Rattle.protocol.specs.Chain.{column, memories, switchedOn}
 use Rattle.protocol.specs.Entries.{Kind, Event, event, Place, opened, onward, Entry, note}
+use Rattle.protocol.specs.Banks.{Banked, unknown, banked}
 
 -- Where the frame is, for the chain as a whole; the fields are those of Slave and Reader.
 pub data Phase : Type 0 where
@@ -108,6 +109,10 @@ along ss s p (m ∷ ms) =
     note p (step (memories ss) s m .says)
     (along (column ss m .slaves) (step (memories ss) s m .state) (onward (step (memories ss) s m .state) p) ms)
 
--- Entries: "The chain's account", of a master row from power-on.
-unfoldable pub account : List Memory → List Bool → List Entry
-account ks row = along (switchedOn ks) powerOn (opened 0) row
+-- Entries: "The chain's account", of a master row from power-on ..
+unfoldable pub entriesAlong : List Memory → List Bool → List Entry
+entriesAlong ks row = along (switchedOn ks) powerOn (opened 0) row
+
+-- .. and Request 05: "The chain's account follows the same rule" for the bank.
+unfoldable pub account : List Memory → List Bool → List Banked
+account ks row = banked unknown (entriesAlong ks row)

@@ -3,12 +3,12 @@ use mathlib.Core.Bool.{Bool, true, false}
 use mathlib.Core.List.{List, [], _∷_, _++_, map}
 use Prim.Native.Nat.{ℕ}
 use lib.ListN.{replicate}
-use Rattle.protocol.specs.Limits.{restZeros, lockLast, registerCount}
+use Rattle.protocol.specs.Limits.{restZeros, lockLast, addressCount}
 use Rattle.protocol.specs.Division.{headerBits, dataBits, check}
 use Rattle.protocol.specs.Header.{accessWord, commandWord}
 use Rattle.protocol.specs.Memory.{Memory}
 use Rattle.protocol.specs.Chain.{answersFrom}
-use Rattle.protocol.specs.Entries.{Entry}
+use Rattle.protocol.specs.Banks.{Banked}
 use Rattle.protocol.specs.Reader.{columns, listFrom}
 
 -- What the card asks for: a byte's check, an access's or a broadcast's, or the locks of so many slaves.
@@ -22,13 +22,13 @@ pub data Question : Type 0 where
 abbrev pub lockRow : List Bool
 lockRow = replicate restZeros false ++ true ∷ replicate lockLast false
 
--- A slave with nothing in its registers and no rights.
+-- A slave of one bank with nothing in its registers and no rights.
 abbrev pub blank : Memory
-blank = record { registers = replicate registerCount 0; rights = replicate registerCount 0; wait = 0 }
+blank = record { banks = 1; registers = replicate addressCount 0; rights = replicate addressCount 0; wait = 0 }
 
 -- The values of a list's entries.
-abbrev pub values : List Entry → List ℕ
-values es = map (λ e. e .event .value) es
+abbrev pub values : List Banked → List ℕ
+values es = map (λ e. e .entry .event .value) es
 
 -- What a question gives: check bits, or the value that the reader lists for the chain's locks.
 unfoldable pub found : Question → List ℕ

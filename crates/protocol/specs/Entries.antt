@@ -71,6 +71,10 @@ pub record Event : Type 0 where
   pub address : ℕ
   pub value : ℕ
 
+-- An event is of a kind.
+abbrev pub is : Kind → Event → Bool
+is k e = eqb (number (e .kind)) (number k)
+
 -- Entries: "Fields not named are 0."
 abbrev pub event : Kind → (id address value : ℕ) → Event
 event k id address value =
@@ -95,7 +99,7 @@ opened k = record { column = k; start = k }
 abbrev pub onward : {P : Type 0} → Timed P → Place → Place
 onward s p = record { column = suc (p .column); start = cond (framed s) (p .start) (suc (p .column)) }
 
--- An entry of the list.
+-- An entry, but for its bank (specs/Banks).
 pub record Entry : Type 0 where
   pub place : Place
   pub event : Event

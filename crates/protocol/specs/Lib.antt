@@ -5,8 +5,9 @@
 --
 --   CDM bit ──► Rest (is it the fourteenth zero? is it S?) ──► a turn of a phase of Slave, Reader or Account (Machine)
 --   0 ──► far slave ──► .. ──► near slave ──► CDS bit          Chain: every slave sees the CDM bit and its far neighbour's bit
---   (CDM, CDS) ──► Reader ──► perhaps an Event                 at its Place an Entry of the list, from two rows alone
+--   (CDM, CDS) ──► Reader ──► perhaps an Event                 at its Place an Entry, from two rows alone
 --   (CDM, Memory of each slave) ──► Account ──► perhaps an Event     .. of the chain's own account, from no answer
+--   Entries ──► Banks: the list, an entry with the bank that the list has shown for its ID
 pub mod Limits
 pub mod Bits
 pub mod Rest
@@ -18,6 +19,7 @@ pub mod Slave
 pub mod Chain
 pub mod Building
 pub mod Entries
+pub mod Banks
 pub mod Pieces
 pub mod Layout
 pub mod Reader

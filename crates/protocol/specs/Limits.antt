@@ -29,9 +29,21 @@ lockFirst = 1
 abbrev pub lockLast : ℕ
 lockLast = lockFirst + idCount
 
--- Columns: "A slave has 128 registers and one right for each".
-abbrev pub registerCount : ℕ
-registerCount = 128
+-- Columns: "A slave has 128 registers": 000 addresses them by seven bits.
+abbrev pub addressCount : ℕ
+addressCount = 128
+
+-- 000, Bank Selection: banks "with 64 data bytes each that are addressed at 0x00 to 0x3F".
+abbrev pub bankSize : ℕ
+bankSize = 64
+
+-- 000: "The bank selection (BSEL) byte is mapped to slave address 0x40."
+abbrev pub bankRegister : ℕ
+bankRegister = 64
+
+-- Request 05: "1 to 8 banks".
+abbrev pub bankLimit : ℕ
+bankLimit = 8
 
 -- Columns, P: "fewer than 64 bytes have passed".
 abbrev pub byteLimit : ℕ

@@ -6,7 +6,7 @@ use mathlib.Core.Option.{Option}
 use Prim.Native.Nat.{ℕ, zero, suc, _+_, _-_, _*_}
 use lib.Dec.{ltb}
 use lib.ListN.{drop}
-use Rattle.protocol.specs.Limits.{headerColumns, idCount, lockFirst, lockLast, registerCount, byteLimit}
+use Rattle.protocol.specs.Limits.{headerColumns, idCount, lockFirst, lockLast, addressCount, byteLimit}
 use Rattle.protocol.specs.Bits.{num, push}
 use Rattle.protocol.specs.Rest.{Timed, powerOn, Judged, judge}
 use Rattle.protocol.specs.Machine as machine
@@ -14,6 +14,7 @@ use Rattle.protocol.specs.Machine.{go, gives, listing}
 use Rattle.protocol.specs.Division.{dataBits, topBit, fits, byteOf}
 use Rattle.protocol.specs.Header.{Header, wrong, access, command, header}
 use Rattle.protocol.specs.Entries.{Kind, Event, event, Place, opened, onward, Entry, note}
+use Rattle.protocol.specs.Banks.{Banked, unknown, banked}
 
 -- What the lock columns showed so far: ones alone, so many ones and then zeros, or any other pattern.
 pub data Locks : Type 0 where
@@ -127,7 +128,7 @@ look (writes id address nth zero so-far echoed) m x =
 -- closed: "P answered 1". odd: "P answered 0 at address 127 or the 64th byte (value 4)".
 look (askP write id address nth) m true = gives (event Kind.closed id address 0) deaf
 look (askP write id address nth) m false =
-    cond (ltb (address + 1) registerCount && ltb nth byteLimit) (go (byteS write id (address + 1) (nth + 1) false))
+    cond (ltb (address + 1) addressCount && ltb nth byteLimit) (go (byteS write id (address + 1) (nth + 1) false))
     (gives (event Kind.odd id address 4) deaf)
 
 -- "A deaf reader still gives `end`."
@@ -167,6 +168,10 @@ unfoldable pub placeAfter : Timed Phase → Place → List Column → Place
 placeAfter s p [] = p
 placeAfter s p (col m x ∷ cs) = placeAfter (step s m x .state) (onward (step s m x .state) p) cs
 
--- "An entry's column counts from the start of the row, wherever the reader was let in": let in at column k, at power-on.
-unfoldable pub listFrom : (k : ℕ) → List Column → List Entry
-listFrom k cs = entries powerOn (opened k) (drop k cs)
+-- "An entry's column counts from the start of the row, wherever the reader was let in": let in at column k, at power-on ..
+unfoldable pub entriesFrom : (k : ℕ) → List Column → List Entry
+entriesFrom k cs = entries powerOn (opened k) (drop k cs)
+
+-- .. and with their banks the list.
+unfoldable pub listFrom : (k : ℕ) → List Column → List Banked
+listFrom k cs = banked unknown (entriesFrom k cs)

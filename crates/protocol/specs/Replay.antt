@@ -1,13 +1,14 @@
--- Replay: a list's written bytes put back, in order, on starting registers; and what a read shows of it.
+-- Replay: a list's written bytes put back, in order, on starting registers; and what a read, a `written` and a bank show of it.
 use mathlib.Core.Path.{_≡_}
 use mathlib.Core.Bool.{Bool, true, false, cond}
 use mathlib.Core.List.{List, [], _∷_}
 use mathlib.Core.Option.{Option, none, some}
-use Prim.Native.Nat.{ℕ, zero, suc}
-use lib.Dec.{eqb}
+use Prim.Native.Nat.{ℕ, zero, suc, _<_}
 use lib.ListN.{getElem?}
-use Rattle.protocol.specs.Memory.{Memory, holds, stored}
-use Rattle.protocol.specs.Entries.{Kind, number, Event, Entry}
+use Rattle.protocol.specs.Limits.{idCount}
+use Rattle.protocol.specs.Memory.{Memory, chosen, allows, holds, stored}
+use Rattle.protocol.specs.Entries.{Kind, is, Event, Entry}
+use Rattle.protocol.specs.Banks.{Banked, noBank, toldAfter, namesBank}
 
 -- The memories with one of them changed at one address; a place past the chain changes nothing.
 unfoldable pub storedAt : List Memory → (id address value : ℕ) → List Memory
@@ -15,15 +16,12 @@ storedAt [] id address value = []
 storedAt (k ∷ ks) zero address value = stored k address value ∷ ks
 storedAt (k ∷ ks) (suc id) address value = k ∷ storedAt ks id address value
 
--- An event is of a kind.
-abbrev pub is : Kind → Event → Bool
-is k e = eqb (number (e .kind)) (number k)
-
 -- A `written` puts its value at its ID and address; any other changes nothing.
 unfoldable pub put : List Memory → Event → List Memory
 put ks e = cond (is Kind.written e) (storedAt ks (e .id) (e .address) (e .value)) ks
 
--- Demand 3: "its writes replayed on the starting registers".
+-- Demand 3: "its writes replayed on the starting registers". Request 05: "demand 3's replay uses the replayed bank register": `stored` asks
+-- the memory at hand which bank it shows, and an entry's bank is not looked at.
 unfoldable pub replay : List Memory → List Entry → List Memory
 replay ks [] = ks
 replay ks (e ∷ es) = replay (put ks (e .event)) es
@@ -42,3 +40,31 @@ whenRead false ks e = Unit {0}
 unfoldable pub Shows : List Memory → List Entry → Type 0
 Shows ks [] = Unit {0}
 Shows ks (e ∷ es) = whenRead (is Kind.read (e .event)) ks (e .event) × Shows (put ks (e .event)) es
+
+-- R and W: "its right allows the access at that address", of a slave that is there.
+abbrev pub mayAt : Option Memory → (write : Bool) → (address : ℕ) → Type 0
+mayAt none write address = ⊥
+mayAt (some k) write address = allows k write address ≡ true
+
+-- A `written` goes to a slave that holds its ID and allows it; of other kinds nothing is asked.
+abbrev pub whenWritten : Bool → List Memory → Event → Type 0
+whenWritten true ks e = (e .id < idCount) × mayAt (getElem? ks (e .id)) true (e .address)
+whenWritten false ks e = Unit {0}
+
+-- So each does, in the replay of the entries before it.
+unfoldable pub Rightful : List Memory → List Entry → Type 0
+Rightful ks [] = Unit {0}
+Rightful ks (e ∷ es) = whenWritten (is Kind.written (e .event)) ks (e .event) × Rightful (put ks (e .event)) es
+
+-- The number in the bank register of a slave that may be there.
+abbrev pub chosenAt : Option Memory → ℕ
+chosenAt none = noBank
+chosenAt (some k) = chosen k
+
+-- The bank that a list names is the one that its ID's bank register names then, in the replay of the entries before it: of those IDs of
+-- which it has had a `written` at the bank register.
+unfoldable pub BanksStand : (told : ℕ → Bool) → List Memory → List Banked → Type 0
+BanksStand told ks [] = Unit {0}
+BanksStand told ks (x ∷ xs) =
+    (namesBank (x .entry .event) ≡ true → told (x .entry .event .id) ≡ true → x .bank ≡ chosenAt (getElem? ks (x .entry .event .id)))
+    × BanksStand (toldAfter told (x .entry .event)) (put ks (x .entry .event)) xs

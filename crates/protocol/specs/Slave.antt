@@ -3,7 +3,7 @@ use mathlib.Core.Bool.{Bool, true, false, cond, not, _&&_, Bool·beq}
 use mathlib.Core.Option.{Option, none, some}
 use Prim.Native.Nat.{ℕ, zero, suc, _+_, _-_}
 use lib.Dec.{ltb, eqb}
-use Rattle.protocol.specs.Limits.{headerColumns, lockFirst, lockLast, registerCount, byteLimit}
+use Rattle.protocol.specs.Limits.{headerColumns, lockFirst, lockLast, addressCount, byteLimit}
 use Rattle.protocol.specs.Bits.{bit, push}
 use Rattle.protocol.specs.Rest.{Timed, Judged, judge}
 use Rattle.protocol.specs.Machine as machine
@@ -74,7 +74,7 @@ called (access id address) (some i) = cond (eqb i id) (askR address) deaf
 
 -- P: "if the next address exists, allows the access, and fewer than 64 bytes have passed".
 unfoldable pub more : Memory → (write : Bool) → (address nth : ℕ) → Bool
-more k write address nth = ltb (address + 1) registerCount && allows k write (address + 1) && ltb nth byteLimit
+more k write address nth = ltb (address + 1) addressCount && allows k write (address + 1) && ltb nth byteLimit
 
 -- Byte: where a confirmed S leads. "Reading: the slave sends data and check"; "Writing: the slave echoes all twelve bits".
 abbrev pub confirmed : Memory → (write : Bool) → (address nth : ℕ) → Phase

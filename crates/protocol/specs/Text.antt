@@ -4,7 +4,8 @@ use mathlib.Core.List.{List, [], _∷_, _++_, map}
 use Prim.Native.Nat.{ℕ, zero, suc, _+_, _/_, _%_}
 use lib.Dec.{ltb, eqb}
 use lib.ListN.{length, drop, getD}
-use Rattle.protocol.specs.Entries.{bytes, table, Entry}
+use Rattle.protocol.specs.Entries.{bytes, table}
+use Rattle.protocol.specs.Banks.{Banked}
 use Rattle.protocol.specs.Layout.{Field, numbers, valueOf, named, heading}
 
 -- "TAB".
@@ -126,7 +127,8 @@ abbrev pub headings : List Field → List ℕ
 headings [] = feed ∷ []
 headings (f ∷ fs) = tab ∷ bytes (heading f) ++ headings fs
 
--- .. "header `event` TAB `column` TAB `id` TAB `address` TAB `value`"; Request 02: "gains a field `start` there".
+-- .. "header `event` TAB `column` TAB `id` TAB `address` TAB `value`"; Request 02: "gains a field `start` there"; Request
+-- 05: "gain `bank` after the address".
 abbrev pub listHeader : List ℕ
 listHeader = bytes (heading Field.kind) ++ headings numbers
 
@@ -136,19 +138,19 @@ field true n = tab ∷ decimal n
 field false n = tab ∷ bytes "-"
 
 -- An entry's fields, and LF ..
-unfoldable pub cells : Entry → List Field → List ℕ
+unfoldable pub cells : Banked → List Field → List ℕ
 cells e [] = feed ∷ []
 cells e (f ∷ fs) = field (named e f) (valueOf e f) ++ cells e fs
 
 -- .. behind "the kind by name".
-unfoldable pub entryLine : Entry → List ℕ
-entryLine e = table (e .event .kind) .name ++ cells e numbers
+unfoldable pub entryLine : Banked → List ℕ
+entryLine e = table (e .entry .event .kind) .name ++ cells e numbers
 
 -- "one entry a line".
-unfoldable pub entryLines : List Entry → List ℕ
+unfoldable pub entryLines : List Banked → List ℕ
 entryLines [] = []
 entryLines (e ∷ es) = entryLine e ++ entryLines es
 
 -- "A list is printed as header .. then one entry a line".
-unfoldable pub listText : List Entry → List ℕ
+unfoldable pub listText : List Banked → List ℕ
 listText es = listHeader ++ entryLines es

@@ -7,16 +7,17 @@ use mathlib.Core.List.{List, [], _∷_}
 use mathlib.Core.Option.{some}
 use Prim.Native.Nat.{ℕ, zero, suc, _+_, _*_, _≤_, _<_, min}
 use lib.ListN.{length, getElem?}
-use Rattle.protocol.specs.Limits.{restZeros, headerColumns, idCount, lockLast, registerCount, byteLimit}
+use Rattle.protocol.specs.Limits.{restZeros, headerColumns, idCount, lockLast, addressCount, byteLimit}
 use Rattle.protocol.specs.Division.{topBit}
 use Rattle.protocol.specs.Memory.{Memory, allows, holds}
 use Rattle.protocol.specs.Slave.{more}
 use Rattle.protocol.specs.Chain.{answersFrom}
 use Rattle.protocol.specs.Entries.{Kind, Event, event, Place, Entry}
+use Rattle.protocol.specs.Banks.{Banked}
 use Rattle.protocol.specs.Reader.{columns, listFrom}
 
 -- The list that a reader makes of a master row and a chain's answers to it.
-abbrev pub listed : List Memory → List Bool → List Entry
+abbrev pub listed : List Memory → List Bool → List Banked
 listed ks row = listFrom 0 (columns row (answersFrom ks row))
 
 -- A place in the row's frame ..
@@ -31,7 +32,7 @@ inFrame column e = record { place = frameAt column; event = e }
 pub record Allowed (ks : List Memory) (k : Memory) (write : Bool) (id address count : ℕ) : Type 0 where
   pub numbered : id < idCount
   pub held : getElem? ks id ≡ some k
-  pub there : address + count ≤ registerCount
+  pub there : address + count ≤ addressCount
   pub few : count ≤ byteLimit
   pub allowed : (i : ℕ) → i < count → allows k write (address + i) ≡ true
 

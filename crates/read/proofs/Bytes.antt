@@ -7,14 +7,15 @@ use native.Mathlib.Nat.{le-refl}
 use native.Mathlib.Omega.{arith}
 use borrow.Author.Tests.{ltb-true}
 use lib.Dec.{ltb}
-use lib.ListN.{length, length-drop}
-use Rattle.protocol.specs.Limits.{headerColumns, lockFirst, lockLast, registerCount, byteLimit}
+use lib.ListN.{length, getD, set, replicate, length-drop}
+use Rattle.protocol.specs.Limits.{headerColumns, idCount, lockFirst, lockLast, addressCount, byteLimit}
 use Rattle.protocol.specs.Bits.{num, bit, push, rowOf}
 use Rattle.protocol.specs.Rest.{Timed, powerOn}
 use Rattle.protocol.specs.Division.{headerBits, checkWidth, fits, byteOf}
 use Rattle.protocol.specs.Header.{Header, wrong, access, command, header}
 use Rattle.protocol.specs.Entries.{Kind, table, Event, event, Place, opened, onward, Entry}
-use Rattle.protocol.specs.Reader.{Locks, ones, upto, mixed, seen, seenAt, Phase, deaf, locks, head, askR, askW, byteS, reads, writes, askP, Look, locked, headed, oddAnswer, asked, readKind, writeKind, look, step, Column, col, columns, entries, listFrom}
+use Rattle.protocol.specs.Banks.{Banked, noBank, unknown, choosesBank, learnt, namesBank, bankOf, banked}
+use Rattle.protocol.specs.Reader.{Locks, ones, upto, mixed, seen, seenAt, Phase, deaf, locks, head, askR, askW, byteS, reads, writes, askP, Look, locked, headed, oddAnswer, asked, readKind, writeKind, look, step, Column, col, columns, entries, entriesFrom, listFrom}
 use Rattle.laws.proofs.Every.{Every, IfAny, either, tested, both}
 use Rattle.protocol.proofs.Machine.{At, keeps, every-note}
 use Rattle.read.specs.Read.{listOf}
@@ -139,9 +140,9 @@ good-look (writes id address nth (suc left) so-far echoed) m x h = (h, tt)
 good-look (writes id address nth zero so-far echoed) m x h = (h, good-event id address (h .0) (h .1) (writeKind (push so-far m) (echoed && Bool·beq x m)) _ (byte-of (push so-far m)))
 good-look (askP write id address nth) m true h = (tt, good-event id address (h .0) (h .1) Kind.closed 0 (omega arith))
 good-look (askP write id address nth) m false h =
-    tested (ltb (address + 1) registerCount && ltb nth byteLimit)
+    tested (ltb (address + 1) addressCount && ltb nth byteLimit)
     (λ q.
-    let next : address + 1 < registerCount = ltb-true _ _ (both _ _ q .0) in
+    let next : address + 1 < addressCount = ltb-true _ _ (both _ _ q .0) in
     rw q ((h .0, omega arith), tt))
     (λ q. rw q (tt, good-event id address (h .0) (h .1) Kind.odd 4 (omega arith)))
 
@@ -152,26 +153,56 @@ good-step s m x h =
     keeps Held (omega arith, tt) (IfAny Bytes) tt (event-bytes Kind.end 0 0 0 (omega arith) (omega arith) (omega arith))
     (λ p g. good-look p m x g) s m h
 
--- A column below the limit, a start before it, and fields that are bytes.
-abbrev pub Small : (limit : ℕ) → Entry → Type 0
-Small limit e = (e .place .column < limit) × (e .place .start ≤ e .place .column) × Bytes (e .event)
+-- A column below the limit, a start before it, and fields that are bytes: of an entry before its bank is known ..
+abbrev Shown : (limit : ℕ) → Entry → Type 0
+Shown limit e = (e .place .column < limit) × (e .place .start ≤ e .place .column) × Bytes (e .event)
 
-small-entries : (s : Timed Phase) (p : Place) (cs : List Column) (limit : ℕ) → At Held s → p .start ≤ p .column
-    → p .column + length cs ≤ limit → Every (Small limit) (entries s p cs)
+shown-entries : (s : Timed Phase) (p : Place) (cs : List Column) (limit : ℕ) → At Held s → p .start ≤ p .column
+    → p .column + length cs ≤ limit → Every (Shown limit) (entries s p cs)
 unfolding entries
-small-entries s p [] limit h early l = tt
-small-entries s p (col m x ∷ cs) limit h early l =
+shown-entries s p [] limit h early l = tt
+shown-entries s p (col m x ∷ cs) limit h early l =
     let good = good-step s m x h in
     let next : Timed Phase = step s m x .state in
-    every-note (Small limit) p (step s m x .says) (entries next (onward next p) cs) (here (step s m x .says) (good .1))
-    (small-entries next (onward next p) cs limit (good .0) (start-early next p early) (omega arith))
+    every-note (Shown limit) p (step s m x .says) (entries next (onward next p) cs) (here (step s m x .says) (good .1))
+    (shown-entries next (onward next p) cs limit (good .0) (start-early next p early) (omega arith))
   where
-    here : (o : Option Event) → IfAny Bytes o → IfAny (λ e. Small limit (record { place = p; event = e })) o
+    here : (o : Option Event) → IfAny Bytes o → IfAny (λ e. Shown limit (record { place = p; event = e })) o
     here none b = tt
     here (some e) b = (omega arith, early, b)
 
+-- .. and with it: what is known of the banks is bytes, and one more leaves bytes.
+byte-known : (known : List ℕ) (id : ℕ) → Every Byte known → Byte (getD known id noBank)
+byte-known [] id h = omega arith
+byte-known (b ∷ known) zero h = h .0
+byte-known (b ∷ known) (suc id) h = byte-known known id (h .1)
+
+all-bytes : (n : ℕ) → Every Byte (replicate n noBank)
+all-bytes zero = tt
+all-bytes (suc n) = (omega arith, all-bytes n)
+
+bytes-set : (known : List ℕ) (id value : ℕ) → Byte value → Every Byte known → Every Byte (set known id value)
+bytes-set [] id value v h = tt
+bytes-set (b ∷ known) zero value v h = (v, h .1)
+bytes-set (b ∷ known) (suc id) value v h = (h .0, bytes-set known id value v (h .1))
+
+abbrev pub Small : (limit : ℕ) → Banked → Type 0
+Small limit e = Shown limit (e .entry) × Byte (e .bank)
+
+small-banked : (limit : ℕ) (known : List ℕ) (es : List Entry) → Every Byte known → Every (Shown limit) es
+    → Every (Small limit) (banked known es)
+unfolding banked bankOf learnt
+small-banked limit known [] bytes h = tt
+small-banked limit known (e ∷ es) bytes h =
+    let more : Every Byte (learnt known (e .event)) =
+    either (Every Byte) (choosesBank (e .event)) (bytes-set known (e .event .id) (e .event .value) (h .0 .2 .2) bytes) bytes in (
+      (h .0, either Byte (namesBank (e .event)) (byte-known known (e .event .id) bytes) (omega arith)),
+      small-banked limit (learnt known (e .event)) es more (h .1),
+    )
+
 pub small-list : (k : ℕ) (cdm cds : List ℕ) → k ≤ length cdm → Every (Small (length cdm)) (listOf k cdm cds)
-unfolding listOf listFrom
+unfolding listOf listFrom entriesFrom
 small-list k cdm cds h =
-    small-entries powerOn (opened k) _ (length cdm) tt (le-refl k)
-    (omega (arith, length-drop k (columns (rowOf cdm) (rowOf cds)), length-columns cdm cds))
+    small-banked (length cdm) unknown _ (all-bytes idCount)
+    (shown-entries powerOn (opened k) _ (length cdm) tt (le-refl k)
+    (omega (arith, length-drop k (columns (rowOf cdm) (rowOf cds)), length-columns cdm cds)))

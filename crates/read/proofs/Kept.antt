@@ -7,7 +7,7 @@ use borrow.Author.Tests.{lt-ltb, le-ltb}
 use lib.Dec.{ltb}
 use lib.ListN.{length, drop, length-append, length-drop}
 use lib.Seq.{sets, sets-eq, length-sets, take-at, drop-append-add, drop-drop}
-use Rattle.protocol.specs.Entries.{Entry}
+use Rattle.protocol.specs.Banks.{Banked}
 use Rattle.protocol.specs.Pieces.{joined}
 use Rattle.protocol.specs.Layout.{current, entryBytes, bytesOf, listBytes}
 use Rattle.protocol.proofs.Codec.{length-entry}
@@ -20,7 +20,7 @@ unfolding kept
 length-kept out n bytes =
     either (λ l. length l ≡ length out) (ltb n (roomOf out)) {y = out} (length-sets out (entryBytes current * n) bytes) refl
 
-pub length-all : (out : List ℕ) (n : ℕ) (es : List Entry) → length (keptAll out n es) ≡ length out
+pub length-all : (out : List ℕ) (n : ℕ) (es : List Banked) → length (keptAll out n es) ≡ length out
 unfolding keptAll
 length-all out n [] = refl
 length-all out n (e ∷ es) = length-all (kept out n (bytesOf current e)) (n + 1) es ∙ length-kept out n (bytesOf current e)
@@ -43,7 +43,7 @@ laid-more front bytes out at e h =
     )
 
 -- With room for all, they stand one after the other, and no other byte has changed.
-kept-behind : (es : List Entry) (n : ℕ) (front out : List ℕ) → length front ≡ entryBytes current * n → n + length es ≤ roomOf out
+kept-behind : (es : List Banked) (n : ℕ) (front out : List ℕ) → length front ≡ entryBytes current * n → n + length es ≤ roomOf out
     → keptAll (front ++ drop (length front) out) n es
     ≡ (front ++ listBytes current es) ++ drop (length (front ++ listBytes current es)) out
 unfolding keptAll kept listBytes joined
@@ -57,12 +57,12 @@ kept-behind (d ∷ es) n front out e h =
     (kept-behind es (n + 1) (front ++ bytes) out (omega (arith, length-append front bytes)) (omega arith)
     ∙ ap (λ (l : List ℕ). l ++ drop (length l) out) (append-assoc front bytes (listBytes current es)))
 
-pub kept-whole : (es : List Entry) (out : List ℕ) → length es ≤ roomOf out
+pub kept-whole : (es : List Banked) (out : List ℕ) → length es ≤ roomOf out
     → keptAll out 0 es ≡ listBytes current es ++ drop (length (listBytes current es)) out
 kept-whole es out h = kept-behind es 0 [] out refl (omega arith)
 
 -- Without room the buffer stays as it is.
-pub kept-empty : (n : ℕ) (es : List Entry) → keptAll [] n es ≡ []
+pub kept-empty : (n : ℕ) (es : List Banked) → keptAll [] n es ≡ []
 unfolding keptAll kept
 kept-empty n [] = refl
 kept-empty n (e ∷ es) = rw (le-ltb n 0 (omega arith)) (kept-empty (n + 1) es)

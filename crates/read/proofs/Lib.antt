@@ -1,3 +1,4 @@
+mod Known
 pub mod Left
 pub mod Kept
 pub mod Bytes

@@ -4,15 +4,15 @@ use Prim.Native.Nat.{ℕ}
 use lib.Dec.{ltb}
 use lib.ListN.{length}
 use Rattle.protocol.specs.Bits.{rowOf}
-use Rattle.protocol.specs.Entries.{Entry}
+use Rattle.protocol.specs.Banks.{Banked}
 use Rattle.protocol.specs.Layout.{current, listBytes}
 use Rattle.protocol.specs.Reader.{columns, listFrom}
 use Rattle.job.specs.Refusals.{Rule, when, lent, Ended}
 use Rattle.job.specs.Rows.{wrongRows}
 use Rattle.job.specs.declared.Outcome.{Outcome}
 
--- The entries that two recorded rows show to a reader let in at column k.
-unfoldable pub listOf : (k : ℕ) → (cdm cds : List ℕ) → List Entry
+-- The entries, with their banks, that two recorded rows show to a reader let in at column k.
+unfoldable pub listOf : (k : ℕ) → (cdm cds : List ℕ) → List Banked
 listOf k cdm cds = listFrom k (columns (rowOf cdm) (rowOf cds))
 
 -- "Read: 5, 6, 7, 8, 9." 5 to 7 are those of any rows (job's specs/Rows); 8: "opening column greater than the length" ..

@@ -1,23 +1,35 @@
-// The job read: two recorded rows and an opening column in, the list of entries that they show out. It returns Made with the number of
-// entries, or Refused with 5 to 9 and the lent buffer as it was.
+// The job read: two recorded rows and an opening column in, the list of entries that they show out, each with its bank (Request 05). It
+// returns Made with the number of entries, or Refused with 5 to 9 and the lent buffer as it was.
 ghost use mathlib.Core.Path.{_≡_};
+ghost use mathlib.Core.Bool.{true};
 ghost use Prim.Native.Nat.{_+_, _≤_};
 ghost use lib.Dec.{leb};
-ghost use lib.ListN.{length};
+ghost use lib.ListN.{length, getD, set};
 ghost use lib.Seq.{sets};
 ghost use Rattle.protocol.specs.Limits.{columnLimit};
 ghost use Rattle.protocol.specs.Bits.{rowOf};
 ghost use Rattle.protocol.specs.Layout.{current, entryBytes};
+ghost use Rattle.protocol.specs.Banks.{noBank};
 ghost use Rattle.protocol.specs.Reader.{columns};
+ghost use Rattle.kinds.specs.Kinds.{isKind};
 ghost use Rattle.job.specs.Refusals.{first, given};
 ghost use Rattle.reader.specs.Code.{stateOf, placeOf, small};
 ghost use Rattle.read.specs.Read.{rowsRefusals, listOf, Listed};
-ghost use Rattle.read.specs.Parts.{Rows, placeIn, inRow, bytesFor, roomOf, kept, keptAll, reached, reachedBy};
+ghost use Rattle.read.specs.Parts.{Rows, placeIn, inRow, bytesFor, bankBy, choosesBy, learntBy, roomOf, kept, keptAll, reached, reachedBy};
 use job::Detail;
 use job::ENTRY_BYTES;
 use job::Outcome;
 use reader::Event;
 use reader::Reader;
+
+// 000: "The bank selection (BSEL) byte is mapped to slave address 0x40."
+const BANK_REGISTER: u64 = 64;
+
+// As many as there are IDs.
+const IDS: usize = machine::IDS as usize;
+
+// "255 if none".
+const NO_BANK: u8 = 255;
 
 // Where in the row an entry stands: its column, and that of its frame's S.
 struct Place {
@@ -25,10 +37,11 @@ struct Place {
     start: usize,
 }
 
-// A reading under way: the reader, the next column, and how many entries there were.
+// A reading under way: the reader, the next column, of each ID the bank that the list has shown so far, and how many entries there were.
 struct Reading {
     reader: Reader,
     column: usize,
+    known: [u8; IDS],
     count: usize,
 }
 
@@ -88,6 +101,7 @@ fn scan(cdm: &[u8], cds: &[u8], opening: usize, out: &mut [u8]) -> usize
     let reading = Reading {
         reader: Reader::new(),
         column: opening,
+        known: [NO_BANK; IDS],
         count: 0,
     };
     let end = scan_on(reading, &cdm[opening..], &cds[opening..], out);
@@ -98,10 +112,11 @@ fn scan(cdm: &[u8], cds: &[u8], opening: usize, out: &mut [u8]) -> usize
 // caller of step, which is inlined here.
 fn scan_on(reading: Reading, cdm: &[u8], cds: &[u8], out: &mut [u8]) -> Reading
     requires { ⌜ (length (now cdm) ≡ length (now cds)) × (reading .column + length (now cdm) ≤ columnLimit) × (reading .count ≤ reading .column) × (placeOf (reading .reader) (reading .column) .start ≤ reading .column) ⌝ }
-    ensures { λ r. ⌜ reachedBy r (now (out .exit)) ≡ reached (stateOf (reading .reader)) (placeOf (reading .reader) (reading .column)) (reading .count) (now (out .entry)) (columns (rowOf (now (cdm .entry))) (rowOf (now (cds .entry)))) ⌝ }
+    ensures { λ r. ⌜ reachedBy r (now (out .exit)) ≡ reached (stateOf (reading .reader)) (placeOf (reading .reader) (reading .column)) (reading .known) (reading .count) (now (out .entry)) (columns (rowOf (now (cdm .entry))) (rowOf (now (cds .entry)))) ⌝ }
 {
     let mut reader = reading.reader;
     let mut column = reading.column;
+    let mut known = reading.known;
     let mut n = reading.count;
     let mut i = 0;
     while i < cdm.len() {
@@ -112,7 +127,10 @@ fn scan_on(reading: Reading, cdm: &[u8], cds: &[u8], out: &mut [u8]) -> Reading
                 column: column,
                 start: reader.body.start,
             };
-            n = keep(out, n, place, e);
+            let bank = bank_of(known, e);
+            let next = learnt(known, e);
+            known = next;
+            n = keep(out, n, place, e, bank);
         }
         reader = t.next;
         column += 1;
@@ -121,34 +139,91 @@ fn scan_on(reading: Reading, cdm: &[u8], cds: &[u8], out: &mut [u8]) -> Reading
     Reading {
         reader: reader,
         column: column,
+        known: known,
         count: n,
     }
 }
 
-// The entry after n others, where there is room for it; returns how many there are now.
-fn keep(out: &mut [u8], n: usize, place: Place, e: Event) -> usize
-    requires { ⌜ (n ≤ columnLimit) × inRow place × small e ⌝ }
-    ensures { λ r. ⌜ (r ≡ n + 1) × (now (out .exit) ≡ kept (now (out .entry)) n (bytesFor (placeIn place) e)) ⌝ }
+// Request 05: `bank`, "named at addresses 0 to 63: the value of that ID's last earlier `written` at the bank register, 255 if none".
+fn bank_of(known: [u8; IDS], e: Event) -> u8
+    requires { ⌜ (isKind (e .kind) ≡ true) × small e ⌝ }
+    ensures { λ r. ⌜ r ≡ bankBy known e ⌝ }
 {
-    let next = n + 1;
-    if n < out.len() / ENTRY_BYTES {
-        put(out, ENTRY_BYTES * n, place, e);
+    if names::has_bank(e.kind as u8, e.address as u8) {
+        shown(known, e.id)
+    } else {
+        0
+    }
+}
+
+// The bank that the list has shown of an ID.
+fn shown(known: [u8; IDS], id: u64) -> u8
+    ensures { λ r. ⌜ r ≡ getD known id noBank ⌝ }
+{
+    let i = id as usize;
+    if i < IDS { known[i] } else { NO_BANK }
+}
+
+// What the list has shown of each ID's bank, with this event too.
+fn learnt(known: [u8; IDS], e: Event) -> [u8; IDS]
+    requires { ⌜ small e ⌝ }
+    ensures { λ r. ⌜ r ≡ learntBy known e ⌝ }
+{
+    if chooses_bank(e) {
+        chosen(known, e.id, e.value as u8)
+    } else {
+        known
+    }
+}
+
+// "`written` at the bank register".
+fn chooses_bank(e: Event) -> bool
+    ensures { λ r. ⌜ r ≡ choosesBy e ⌝ }
+{
+    if e.kind == kinds::WRITTEN {
+        e.address == BANK_REGISTER
+    } else {
+        false
+    }
+}
+
+// .. with this bank of one ID.
+fn chosen(known: [u8; IDS], id: u64, bank: u8) -> [u8; IDS]
+    ensures { λ r. ⌜ r ≡ set known id bank ⌝ }
+{
+    let mut next = known;
+    let i = id as usize;
+    if i < IDS {
+        next[i] = bank;
     }
     next
 }
 
-fn put(out: &mut [u8], at: usize, place: Place, e: Event)
-    requires { ⌜ (at + entryBytes current ≤ length (now out)) × inRow place × small e ⌝ }
-    ensures { λ r. ⌜ now (out .exit) ≡ sets (now (out .entry)) at (bytesFor (placeIn place) e) ⌝ }
+// The entry after n others, where there is room for it; returns how many there are now.
+fn keep(out: &mut [u8], n: usize, place: Place, e: Event, bank: u8) -> usize
+    requires { ⌜ (n ≤ columnLimit) × inRow place × small e ⌝ }
+    ensures { λ r. ⌜ (r ≡ n + 1) × (now (out .exit) ≡ kept (now (out .entry)) n (bytesFor (placeIn place) e bank)) ⌝ }
 {
-    let bytes = entry_bytes(place, e);
+    let next = n + 1;
+    if n < out.len() / ENTRY_BYTES {
+        put(out, ENTRY_BYTES * n, place, e, bank);
+    }
+    next
+}
+
+fn put(out: &mut [u8], at: usize, place: Place, e: Event, bank: u8)
+    requires { ⌜ (at + entryBytes current ≤ length (now out)) × inRow place × small e ⌝ }
+    ensures { λ r. ⌜ now (out .exit) ≡ sets (now (out .entry)) at (bytesFor (placeIn place) e bank) ⌝ }
+{
+    let bytes = entry_bytes(place, e, bank);
     print::put_bytes(out, at, &bytes);
 }
 
-// Entries: "kind, column (two bytes, high first), id, address, value"; Request 02: "two bytes for S placed after the column".
-fn entry_bytes(place: Place, e: Event) -> [u8; ENTRY_BYTES]
+// Entries: "kind, column (two bytes, high first), id, address, value"; Request 02: "two bytes for S placed after the column"; Request
+// 05: "`bank` after the address".
+fn entry_bytes(place: Place, e: Event, bank: u8) -> [u8; ENTRY_BYTES]
     requires { ⌜ inRow place × small e ⌝ }
-    ensures { λ r. ⌜ r ≡ bytesFor (placeIn place) e ⌝ }
+    ensures { λ r. ⌜ r ≡ bytesFor (placeIn place) e bank ⌝ }
 {
     [
         e.kind as u8,
@@ -158,6 +233,7 @@ fn entry_bytes(place: Place, e: Event) -> [u8; ENTRY_BYTES]
         (place.start % 256) as u8,
         e.id as u8,
         e.address as u8,
+        bank,
         e.value as u8,
     ]
 }

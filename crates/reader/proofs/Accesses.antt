@@ -6,7 +6,7 @@ use Prim.Native.Nat.{ℕ, zero, suc, _+_, _-_, _*_, _/_, _%_, _^_, _≤_, _<_}
 use native.Mathlib.Omega.{arith}
 use borrow.Author.Tests.{lt-ltb, le-ltb, eq-eqb, ne-eqb}
 use mir.Val.{boolByte}
-use Rattle.protocol.specs.Limits.{registerCount, byteLimit}
+use Rattle.protocol.specs.Limits.{addressCount, byteLimit}
 use Rattle.protocol.specs.Bits.{num, bitOf, push}
 use Rattle.protocol.specs.Division.{dataBits, checkWidth, topBit, fits, byteOf}
 use Rattle.protocol.specs.Reader.{deaf, askR, askW, byteS, reads, writes, askP, Look, asked, look}
@@ -126,20 +126,20 @@ module _ (i a : ℕ) (m x : Bool) where
     unfolding look
     p-closed e = rw e
 
-    pub p-more : x ≡ false → a < registerCount - 1 → n < byteLimit
-        → seenBy (byteS v i ((a + 1) % registerCount) (n + 1) false) nothing ≡ seen (look (askP v i a n) m x)
+    pub p-more : x ≡ false → a < addressCount - 1 → n < byteLimit
+        → seenBy (byteS v i ((a + 1) % addressCount) (n + 1) false) nothing ≡ seen (look (askP v i a n) m x)
     unfolding look
     p-more e h k =
-        let b : (a + 1) % registerCount ≡ a + 1 = omega arith in
-        rw (e, lt-ltb (a + 1) registerCount (omega arith), lt-ltb n byteLimit k, b)
+        let b : (a + 1) % addressCount ≡ a + 1 = omega arith in
+        rw (e, lt-ltb (a + 1) addressCount (omega arith), lt-ltb n byteLimit k, b)
 
-    pub p-last-byte : x ≡ false → a < registerCount - 1 → byteLimit ≤ n → seenBy deaf (said 8 i a 4) ≡ seen (look (askP v i a n) m x)
+    pub p-last-byte : x ≡ false → a < addressCount - 1 → byteLimit ≤ n → seenBy deaf (said 8 i a 4) ≡ seen (look (askP v i a n) m x)
     unfolding look
-    p-last-byte e h k = rw (e, lt-ltb (a + 1) registerCount (omega arith), le-ltb n byteLimit k)
+    p-last-byte e h k = rw (e, lt-ltb (a + 1) addressCount (omega arith), le-ltb n byteLimit k)
 
-    pub p-last-address : x ≡ false → registerCount - 1 ≤ a → seenBy deaf (said 8 i a 4) ≡ seen (look (askP v i a n) m x)
+    pub p-last-address : x ≡ false → addressCount - 1 ≤ a → seenBy deaf (said 8 i a 4) ≡ seen (look (askP v i a n) m x)
     unfolding look
-    p-last-address e h = rw (e, le-ltb (a + 1) registerCount (omega arith))
+    p-last-address e h = rw (e, le-ltb (a + 1) addressCount (omega arith))
 
 -- At W: an ID that is not locked. absent: "answered 0 0", the number of the two answers being 0.
 module _ (i a l v : ℕ) (r m : Bool) (differ : Bool·beq r m ≡ false) (unlocked : l ≤ i) where

@@ -5,7 +5,7 @@ use Prim.Native.Nat.{ℕ, _+_, _-_, _/_, _%_, _^_, _≤_, _<_, min}
 use native.Mathlib.Nat.{mod-mod}
 use native.Mathlib.Omega.{arith}
 use borrow.Author.Tests.{lt-ltb, le-ltb, ne-eqb}
-use Rattle.protocol.specs.Limits.{headerColumns, idCount, lockFirst, lockLast, registerCount}
+use Rattle.protocol.specs.Limits.{headerColumns, idCount, lockFirst, lockLast, addressCount}
 use Rattle.protocol.specs.Bits.{push, bit}
 use Rattle.protocol.specs.Division.{headerBits, checkWidth, fits}
 use Rattle.protocol.specs.Header.{header}
@@ -134,10 +134,10 @@ module _ (p w w′ : ℕ) (m x : Bool) (q : w′ ≡ push w m) where
       head-bad h k = rw (head-last h, ← e, k)
 
       pub head-access : headerColumns - 1 ≤ p → f ≡ true → w′ / 2 ^ checkWidth / 2 ^ 10 % 2 ≡ 1
-          → seenBy (askR (w′ / 2 ^ checkWidth / registerCount % idCount % idCount) (w′ / 2 ^ checkWidth % registerCount % registerCount) l) nothing ≡ seen in-head
+          → seenBy (askR (w′ / 2 ^ checkWidth / addressCount % idCount % idCount) (w′ / 2 ^ checkWidth % addressCount % addressCount) l) nothing ≡ seen in-head
       unfolding header headed bit
       head-access h k b =
-          rw (head-last h, ← e, k, b, mod-mod (w′ / 2 ^ checkWidth / registerCount) idCount, mod-mod (w′ / 2 ^ checkWidth) registerCount)
+          rw (head-last h, ← e, k, b, mod-mod (w′ / 2 ^ checkWidth / addressCount) idCount, mod-mod (w′ / 2 ^ checkWidth) addressCount)
 
       pub head-command : headerColumns - 1 ≤ p → f ≡ true → (w′ / 2 ^ checkWidth / 2 ^ 10 % 2 ≡ 1 → ⊥)
           → seenBy deaf (said 4 (w′ / 2 ^ checkWidth % 2 ^ 2) 0 (w′ / 2 ^ checkWidth / 2 ^ 2 % 2 ^ 8)) ≡ seen in-head

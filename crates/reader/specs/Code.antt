@@ -4,7 +4,7 @@ use mathlib.Core.Path.{_≡_}
 use mathlib.Core.Bool.{Bool, cond}
 use mathlib.Core.Option.{Option, none, some}
 use Prim.Native.Nat.{ℕ, suc, _+_, _-_, _%_, _<_, min}
-use Rattle.protocol.specs.Limits.{idCount, lockFirst, lockLast, registerCount}
+use Rattle.protocol.specs.Limits.{idCount, lockFirst, lockLast, addressCount}
 use Rattle.protocol.specs.Bits.{bitOf}
 use Rattle.protocol.specs.Rest.{Timed, power, rest, frame, framed}
 use Rattle.protocol.specs.Machine.{Turn}
@@ -26,7 +26,7 @@ idOf b = b .id % idCount
 
 -- .. and the address.
 abbrev pub addressOf : Body → ℕ
-addressOf b = b .address % registerCount
+addressOf b = b .address % addressCount
 
 -- A lock value is 9 at most; any bound above it would do.
 abbrev pub lockBound : ℕ

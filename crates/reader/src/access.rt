@@ -11,8 +11,8 @@ use crate::made::LOCK_BOUND;
 use crate::made::gives;
 use crate::made::go;
 use crate::made::number;
+use machine::ADDRESSES;
 use machine::IDS;
-use machine::REGISTERS;
 
 // R, with its answer, waits for W.
 pub fn ask_r(zeros: u64, body: Body, m: bool, x: bool) -> Stepped
@@ -32,7 +32,7 @@ pub fn ask_w(zeros: u64, body: Body, m: bool, x: bool) -> Stepped
 {
     let r = body.asked == 1;
     let id = body.id % IDS;
-    let address = body.address % REGISTERS;
+    let address = body.address % ADDRESSES;
     if r == m {
         gives(Phase::Deaf, zeros, body, kinds::PAIR, id, address, 0)
     } else if id < body.count % LOCK_BOUND {
@@ -48,7 +48,7 @@ fn accepted(zeros: u64, body: Body, m: bool, x: bool) -> Stepped
     ensures { λ r. ⌜ Meets Phase.AskW zeros body m x r ⌝ }
 {
     let id = body.id % IDS;
-    let address = body.address % REGISTERS;
+    let address = body.address % ADDRESSES;
     let r = body.asked == 1;
     let y = body.answered == 1;
     let w = number(m);
@@ -81,7 +81,7 @@ fn unlocked(zeros: u64, body: Body, m: bool, x: bool) -> Stepped
     ensures { λ r. ⌜ Meets Phase.AskW zeros body m x r ⌝ }
 {
     let id = body.id % IDS;
-    let address = body.address % REGISTERS;
+    let address = body.address % ADDRESSES;
     let value = both(body.answered == 1, x);
     if value == 0 {
         gives(Phase::Deaf, zeros, body, kinds::ABSENT, id, address, 0)

@@ -8,21 +8,21 @@ use crate::Phase;
 use crate::Stepped;
 use crate::made::gives;
 use crate::made::go;
+use machine::ADDRESSES;
 use machine::BYTES;
 use machine::CHECKS;
 use machine::IDS;
-use machine::REGISTERS;
 use machine::TOP_BIT;
 
 // odd: "P answered 0 at address 127".
-const LAST_ADDRESS: u64 = REGISTERS - 1;
+const LAST_ADDRESS: u64 = ADDRESSES - 1;
 
 // Request 03: "The reader lists `mute` only when the master gives up unconfirmed after a 1, in the column of that 0."
 pub fn byte_s(zeros: u64, body: Body, m: bool, x: bool) -> Stepped
     ensures { λ r. ⌜ Meets Phase.ByteS zeros body m x r ⌝ }
 {
     let id = body.id % IDS;
-    let address = body.address % REGISTERS;
+    let address = body.address % ADDRESSES;
     let mut n = body;
     n.place = TOP_BIT;
     n.word = 0;
@@ -53,7 +53,7 @@ pub fn reads(zeros: u64, body: Body, m: bool, x: bool) -> Stepped
     let word = checkbits::pushed(body.word, x);
     let value = word / CHECKS % 256;
     let id = body.id % IDS;
-    let address = body.address % REGISTERS;
+    let address = body.address % ADDRESSES;
     let mut n = body;
     if body.place == 0 {
         n.asked = 0;
@@ -77,7 +77,7 @@ pub fn writes(zeros: u64, body: Body, m: bool, x: bool) -> Stepped
     let value = word / CHECKS % 256;
     let same = echoed(body.answered, m, x);
     let id = body.id % IDS;
-    let address = body.address % REGISTERS;
+    let address = body.address % ADDRESSES;
     let mut n = body;
     if body.place == 0 {
         n.asked = 1;
@@ -103,7 +103,7 @@ pub fn ask_p(zeros: u64, body: Body, m: bool, x: bool) -> Stepped
     ensures { λ r. ⌜ Meets Phase.AskP zeros body m x r ⌝ }
 {
     let id = body.id % IDS;
-    let address = body.address % REGISTERS;
+    let address = body.address % ADDRESSES;
     if x {
         gives(Phase::Deaf, zeros, body, kinds::CLOSED, id, address, 0)
     } else if address < LAST_ADDRESS {

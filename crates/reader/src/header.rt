@@ -7,13 +7,13 @@ use crate::Stepped;
 use crate::made::LOCK_BOUND;
 use crate::made::gives;
 use crate::made::go;
+use machine::ADDRESSES;
 use machine::CHECKS;
 use machine::CTS;
 use machine::HEADER;
 use machine::IDS;
 use machine::LOCK_FIRST;
 use machine::LOCK_LAST;
-use machine::REGISTERS;
 
 // The header's columns before IDL0's, before IDL8's and before its own last.
 const IDL0: u64 = LOCK_FIRST - 1;
@@ -111,8 +111,8 @@ pub fn head(zeros: u64, body: Body, m: bool, x: bool) -> Stepped
     } else if checkbits::header_fits(word) {
         let v = word / CHECKS;
         if v / CTS % 2 == 1 {
-            n.id = v / REGISTERS % IDS;
-            n.address = v % REGISTERS;
+            n.id = v / ADDRESSES % IDS;
+            n.address = v % ADDRESSES;
             go(Phase::AskR, zeros, n)
         } else {
             let ids = v / COMMANDS % 256;

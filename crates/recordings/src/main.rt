@@ -1,5 +1,6 @@
-// Reads small recordings, each kind of entry in at least two of them, and prints their lists: kind, column, start, id, address, value. A
-// recording is a built request of 64 columns and one slave's answers to it, with a bit or two of either row flipped, or a slave that waits.
+// Reads small recordings, each kind of entry in at least two of them, and prints their lists: kind, column, start, id, address, bank,
+// value. A recording is a built request of 64 columns and one slave's answers to it, with a bit or two of either row flipped, or a slave
+// that waits.
 //
 //   column  0 .. 13  14  15 .. 23      24 .. 29   30  31  32  33 .. 40  41 .. 44  45
 //           zeros    S   header, IDL   header     R   W   S   data      check     P
@@ -221,7 +222,8 @@ fn shown(row: [u8; 64], right: u8, wait: u8, sent: usize, answered: usize) {
     let rights = [right; 128];
     let mut cds = [0u8; 64];
     let waits = [wait];
-    run::run(1, &rights, &waits, &mut registers, &cdm, &mut cds);
+    let banks = [1u8];
+    run::run(1, &banks, &rights, &waits, &mut registers, &cdm, &mut cds);
     flip(&mut cds, answered);
     let mut list = [0u8; ENTRY_BYTES * 64];
     match read::read(&cdm, &cds, 0, &mut list) {
@@ -263,6 +265,8 @@ fn entry(e: Fields) {
     number(e.id as u64);
     io::write_all(STDOUT_FILENO, b" ");
     number(e.address as u64);
+    io::write_all(STDOUT_FILENO, b" ");
+    number(e.bank as u64);
     io::write_all(STDOUT_FILENO, b" ");
     number(e.value as u64);
     io::write_all(STDOUT_FILENO, b"\n");

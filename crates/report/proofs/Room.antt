@@ -8,7 +8,7 @@ use borrow.Author.Tests.{le-ltb, ltb-true, ltb-false}
 use lib.Dec.{ltb}
 use lib.ListN.{length, length-append}
 use Rattle.protocol.specs.Limits.{columnLimit}
-use Rattle.protocol.specs.Entries.{Entry}
+use Rattle.protocol.specs.Banks.{Banked}
 use Rattle.protocol.specs.Text.{cdmOf, cdsOf, entryLines}
 use Rattle.protocol.specs.Fault.{Fault, faultAt, textFault}
 use Rattle.laws.proofs.Every.{Every, IfAny, tested, looked-up}
@@ -27,7 +27,7 @@ use Rattle.report.proofs.Lines.{twenty}
 use Rattle.report.proofs.Rows.{reports-late, reports-shown, reports-bad, reports-long, reports-rows}
 
 -- The lines of entries whose fields are bytes.
-lines-short : (limit : ℕ) (es : List Entry) → limit ≤ columnLimit → Every (Small limit) es
+lines-short : (limit : ℕ) (es : List Banked) → limit ≤ columnLimit → Every (Small limit) es
     → length (entryLines es) ≤ lineLimit * length es
 unfolding entryLines
 lines-short limit [] l h = omega arith
@@ -36,7 +36,7 @@ lines-short limit (e ∷ es) l h =
     rw length-append
     (omega (
       arith,
-      line-short e (omega arith) (omega arith) (omega arith) (omega arith) (omega arith),
+      line-short e (omega arith) (omega arith) (omega arith) (omega arith) (omega arith) (omega arith),
       lines-short limit es l (h .1),
     ))
 

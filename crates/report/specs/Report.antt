@@ -16,7 +16,7 @@ use Rattle.rows_text.specs.RowsText.{badForm}
 
 -- Room for any report.
 abbrev pub reportRoom : ℕ
-reportRoom = 34 * columnLimit
+reportRoom = 37 * columnLimit
 
 -- Numbers in decimal, each behind its TAB.
 unfoldable pub fields : (numbers : List ℕ) → List ℕ

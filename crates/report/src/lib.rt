@@ -15,8 +15,8 @@ use job::Detail;
 use job::ENTRY_BYTES;
 use job::Outcome;
 
-// Room for any report: for each column a line of at most 33 bytes, and in what is over the header.
-pub const REPORT_ROOM: usize = 34 * COLUMN_LIMIT;
+// Room for any report: for each column a line of at most 36 bytes, and in what is over the header.
+pub const REPORT_ROOM: usize = 37 * COLUMN_LIMIT;
 
 // "At most one entry falls in a column".
 const LIST_LIMIT: usize = ENTRY_BYTES * COLUMN_LIMIT;

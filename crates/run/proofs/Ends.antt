@@ -5,50 +5,55 @@ use mathlib.Core.List.{List}
 use mathlib.Core.Option.{none}
 use Prim.Native.Nat.{ℕ, _≤_}
 use borrow.Author.Tests.{ltb-false, eqb-true, not-false}
+use lib.Dec.{eqb}
 use lib.ListN.{length}
 use Rattle.protocol.specs.Limits.{columnLimit}
+use Rattle.laws.proofs.Every.{both}
 use Rattle.job.specs.Bytes.{areBits}
 use Rattle.job.specs.Refusals.{first, given}
 use Rattle.job.specs.Rows.{rowRules, wrongRow}
 use Rattle.job.specs.declared.Outcome.the-variants.{Made, Refused}
 use Rattle.job.specs.declared.Detail.the-variants.{Alone}
 use Rattle.job.proofs.Refusals.{no, no-either, laid-whole, ended-given, ended-made}
-use Rattle.run.specs.Run.{refusals, Ran}
+use Rattle.run.specs.Run.{areCounts, sizeRefusals, refusals, Ran}
 use Rattle.run.specs.Parts.{Holds, Rowed}
 
 -- What no refusal says of the lent bytes.
-module _ (slaves : ℕ) (registers rights waits cdm cds : List ℕ)
-    (e : first (refusals slaves (length registers) rights (length waits) cdm (length cds)) ≡ none) where
-  pub held : Holds slaves registers rights waits
+module _ (slaves : ℕ) (table registers rights waits cdm cds : List ℕ)
+    (e : first (refusals slaves table (length registers) rights (length waits) cdm (length cds)) ≡ none) where
+  right-table : (length table ≡ slaves) × (areCounts table ≡ true)
   unfolding refusals
+  right-table = let b = both (eqb (length table) slaves) (areCounts table) (not-false _ (no 19 _ e)) in (eqb-true _ _ (b .0), b .1)
+
+  pub held : Holds table registers rights waits
+  unfolding refusals sizeRefusals
   held =
       record {
-        few = ltb-false _ _ (no 1 _ e);
         all-registers = eqb-true _ _ (not-false _ (no 2 _ e));
         all-rights = eqb-true _ _ (not-false _ (no 3 _ e));
-        all-waits = eqb-true _ _ (not-false _ (no 18 _ e));
+        all-waits = eqb-true _ _ (not-false _ (no 18 _ e)) ∙ sym (right-table .0);
       }
 
   pub short-row : length cdm ≤ columnLimit
-  unfolding refusals wrongRow rowRules
+  unfolding refusals sizeRefusals wrongRow rowRules
   short-row = ltb-false _ _ (no-either _ _ (no 5 _ e) .0)
 
   pub same-rows : length cds ≡ length cdm
-  unfolding refusals wrongRow rowRules
+  unfolding refusals sizeRefusals wrongRow rowRules
   same-rows = sym (eqb-true _ _ (not-false _ (no 6 _ e)))
 
   pub master-bits : areBits cdm ≡ true
-  unfolding refusals wrongRow rowRules
+  unfolding refusals sizeRefusals wrongRow rowRules
   master-bits = not-false _ (no 7 _ e)
 
-module _ (slaves : ℕ) (rights waits registers cdm cds : List ℕ) where
-  pub ran-refused : (why : ℕ) → given why ≡ first (refusals slaves (length registers) rights (length waits) cdm (length cds)) → (why ≡ 0 → ⊥)
-      → Ran slaves rights waits registers cdm cds (Refused why Alone) registers cds
+module _ (slaves : ℕ) (table rights waits registers cdm cds : List ℕ) where
+  pub ran-refused : (why : ℕ) → given why ≡ first (refusals slaves table (length registers) rights (length waits) cdm (length cds)) → (why ≡ 0 → ⊥)
+      → Ran slaves table rights waits registers cdm cds (Refused why Alone) registers cds
   ran-refused why e h = record { ends = ended-given _ _ _ why e h }
 
-  pub ran-made : (registers′ cds′ : List ℕ) → first (refusals slaves (length registers) rights (length waits) cdm (length cds)) ≡ none
-      → Rowed slaves rights waits registers cdm registers′ cds′ → length registers′ ≡ length registers → length cds′ ≡ length cds
-      → Ran slaves rights waits registers cdm cds (Made (length cdm)) registers′ cds′
+  pub ran-made : (registers′ cds′ : List ℕ) → first (refusals slaves table (length registers) rights (length waits) cdm (length cds)) ≡ none
+      → Rowed table rights waits registers cdm registers′ cds′ → length registers′ ≡ length registers → length cds′ ≡ length cds
+      → Ran slaves table rights waits registers cdm cds (Made (length cdm)) registers′ cds′
   ran-made registers′ cds′ e r same same′ =
       let in-registers = r .registers-after ∙ laid-whole _ registers (ap length (sym (r .registers-after)) ∙ same) in
       let in-row = r .row ∙ laid-whole _ cds (ap length (sym (r .row)) ∙ same′) in

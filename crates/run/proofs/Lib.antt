@@ -1,4 +1,5 @@
 pub mod Turned
+pub mod Tables
 pub mod Slaves
 pub mod Rows
 pub mod Ends

@@ -2,17 +2,17 @@
 use mathlib.Core.Path.{_≡_, refl, sym, ap, _∙_}
 use mathlib.Core.Bool.{Bool, true, false}
 use mathlib.Core.List.{List, [], _∷_, _++_, map, append-nil, append-assoc}
-use Prim.Native.Nat.{ℕ, zero, suc, _+_, _-_, _*_, _≤_, _<_}
+use Prim.Native.Nat.{ℕ, zero, suc, _+_, _-_, _≤_, _<_}
 use native.Mathlib.Nat.{add-zero}
 use native.Mathlib.Omega.{arith}
-use lib.ListN.{length, length-map, length-append, length-drop, take, drop, replicate, getD}
+use lib.ListN.{length, length-map, length-append, length-drop, take, drop, replicate, getD, drop-of-length-le}
 use lib.Seq.{drop-drop, getD-drop, take-all, length-take-le, take-at, drop-at}
-use Rattle.protocol.specs.Limits.{registerCount}
 use Rattle.protocol.specs.Bits.{num, bitOf, rowOf}
 use Rattle.protocol.specs.Slave as protocol
 use Rattle.protocol.specs.Chain.{switchedOn, memories, answersFrom, memoriesAfter}
-use Rattle.run.specs.Run.{memoriesOf, registersOf}
+use Rattle.run.specs.Run.{sizeOf, memoriesOf, registersOf}
 use Rattle.run.specs.Parts.{sentBy, newBy, Passed, Rowed}
+use Rattle.run.proofs.Tables.{left-next}
 use Rattle.run.proofs.Turned.{allSent, allAfter, answers-turned, after-turned}
 
 -- A row's bytes are its bits.
@@ -31,140 +31,144 @@ num-zeros : (n : ℕ) → map num (replicate n false) ≡ replicate n 0
 num-zeros zero = refl
 num-zeros (suc n) = ap (λ (l : List ℕ). 0 ∷ l) (num-zeros n)
 
--- The bytes of the slaves from place i on.
-abbrev pub past : ℕ → List ℕ → List ℕ
-past i bytes = drop (registerCount * i) bytes
+-- The slaves that have yet to go over the row, at power-on: those of the table from place i on, with the bytes from `at` on.
+unfoldable pub waiting : (table : List ℕ) (i at : ℕ) (registers rights waits : List ℕ) → List protocol.Slave
+waiting table i at registers rights waits = switchedOn (memoriesOf (drop i table) (drop at registers) (drop at rights) (drop i waits))
 
-past-next : (i : ℕ) (bytes : List ℕ) → drop registerCount (past i bytes) ≡ past (i + 1) bytes
-past-next i bytes =
-    let e : registerCount * i + registerCount ≡ registerCount * (i + 1) = omega arith in
-    rw e at (drop-drop registerCount (registerCount * i) bytes)
+-- The bytes of one slave end where those of the others begin.
+skipped : (at end : ℕ) (bytes : List ℕ) → at ≤ end → drop (end - at) (drop at bytes) ≡ drop end bytes
+skipped at end bytes h =
+    let e : at + (end - at) ≡ end = omega arith in drop-drop (end - at) at bytes ∙ ap (λ (n : ℕ). drop n bytes) e
 
--- The slaves that have yet to go over the row, at power-on.
-unfoldable pub waiting : (n i : ℕ) (registers rights waits : List ℕ) → List protocol.Slave
-waiting n i registers rights waits = switchedOn (memoriesOf (n - i) (past i registers) (past i rights) (drop i waits))
-
-waiting-next : (n i : ℕ) (registers rights waits : List ℕ) → i < n
-    → waiting n i registers rights waits
-    ≡ newBy (take registerCount (past i registers)) (take registerCount (past i rights)) (getD waits i 0)
-    ∷ waiting n (i + 1) registers rights waits
+waiting-next : (table : List ℕ) (i at end b : ℕ) (registers rights waits : List ℕ) → i < length table → b ≡ getD table i 0 → end ≡ at + sizeOf b
+    → waiting table i at registers rights waits
+    ≡ newBy b (take (end - at) (drop at registers)) (take (end - at) (drop at rights)) (getD waits i 0)
+    ∷ waiting table (i + 1) end registers rights waits
 unfolding waiting switchedOn memoriesOf
-waiting-next n i registers rights waits h =
-    let e : n - i ≡ suc (n - (i + 1)) = omega arith in
-    rw (e, past-next i registers, past-next i rights, getD-drop i waits 0 0, drop-drop 1 i waits, add-zero)
+waiting-next table i at end b registers rights waits h e stop =
+    let size : sizeOf b ≡ end - at = omega arith in
+    let before : at ≤ end = omega arith in
+    rw (
+      left-next table i h,
+      ← e,
+      size,
+      skipped at end registers before,
+      skipped at end rights before,
+      getD-drop i waits 0 0,
+      drop-drop 1 i waits,
+      add-zero,
+    )
 
-waiting-none : (n i : ℕ) (registers rights waits : List ℕ) → n ≤ i → waiting n i registers rights waits ≡ []
+waiting-none : (table : List ℕ) (i at : ℕ) (registers rights waits : List ℕ) → length table ≤ i → waiting table i at registers rights waits ≡ []
 unfolding waiting switchedOn memoriesOf
-waiting-none n i registers rights waits h = let e : n - i ≡ 0 = omega arith in rw e
+waiting-none table i at registers rights waits h = rw (drop-of-length-le table h)
 
 -- The registers of those that have gone over the row, with those of the others behind them.
-unfoldable pub gathered : (n i : ℕ) (registers rights waits cdm cds : List ℕ) → List ℕ
-gathered n i registers rights waits cdm cds =
-    take (registerCount * i) registers
-    ++ registersOf (memories (allAfter (waiting n i registers rights waits) (rowOf cdm) (rowOf cds)))
+unfoldable pub gathered : (table : List ℕ) (i at : ℕ) (registers rights waits cdm cds : List ℕ) → List ℕ
+gathered table i at registers rights waits cdm cds =
+    take at registers ++ registersOf (memories (allAfter (waiting table i at registers rights waits) (rowOf cdm) (rowOf cds)))
 
 -- At first all are waiting, and the bits are 0.
-module _ (n : ℕ) (registers rights waits cdm : List ℕ) where
+module _ (table registers rights waits cdm : List ℕ) where
   zeros : rowOf (replicate (length cdm) 0) ≡ replicate (length (rowOf cdm)) false
   unfolding rowOf
   zeros = row-zeros (length cdm) ∙ ap (λ (k : ℕ). replicate k false) (sym (length-map cdm bitOf))
 
-  pub sent-first : allSent (waiting n 0 registers rights waits) (rowOf cdm) (rowOf (replicate (length cdm) 0))
-      ≡ answersFrom (memoriesOf n registers rights waits) (rowOf cdm)
+  pub sent-first : allSent (waiting table 0 0 registers rights waits) (rowOf cdm) (rowOf (replicate (length cdm) 0))
+      ≡ answersFrom (memoriesOf table registers rights waits) (rowOf cdm)
   unfolding waiting answersFrom
-  sent-first =
-      let e : n - 0 ≡ n = omega arith in rw (zeros, e) (answers-turned (switchedOn (memoriesOf n registers rights waits)) (rowOf cdm))
+  sent-first = rw zeros (answers-turned (switchedOn (memoriesOf table registers rights waits)) (rowOf cdm))
 
-  pub gathered-first : gathered n 0 registers rights waits cdm (replicate (length cdm) 0)
-      ≡ registersOf (memoriesAfter (memoriesOf n registers rights waits) (rowOf cdm))
+  pub gathered-first : gathered table 0 0 registers rights waits cdm (replicate (length cdm) 0)
+      ≡ registersOf (memoriesAfter (memoriesOf table registers rights waits) (rowOf cdm))
   unfolding gathered waiting memoriesAfter
-  gathered-first =
-      let e : n - 0 ≡ n = omega arith in
-      rw (zeros, e, after-turned (switchedOn (memoriesOf n registers rights waits)) (rowOf cdm))
+  gathered-first = rw (zeros, after-turned (switchedOn (memoriesOf table registers rights waits)) (rowOf cdm))
 
 pub bits-first : (n : ℕ) → map num (rowOf (replicate n 0)) ≡ replicate n 0
 bits-first n = rw (row-zeros n) (num-zeros n)
 
 -- A slave's own bytes.
-pub own-long : (k i : ℕ) (bytes : List ℕ) → k ≡ registerCount → registerCount * i + registerCount ≤ length bytes
-    → length (take k (past i bytes)) ≡ registerCount
-own-long k i bytes e h = rw e (length-take-le registerCount (past i bytes) (rw length-drop (omega arith)))
+pub own-long : (at end : ℕ) (bytes : List ℕ) → end ≤ length bytes → length (take (end - at) (drop at bytes)) ≡ end - at
+own-long at end bytes h = length-take-le (end - at) (drop at bytes) (rw length-drop (omega arith))
 
--- One slave has gone over the row: `part` are its registers afterwards, k of them.
-pub record Gone (n i k : ℕ) (registers rights waits cdm cds part cds′ : List ℕ) : Type 0 where
-  pub size : k ≡ registerCount
-  pub small : i < n
-  pub long : registerCount * i + registerCount ≤ length registers
-  pub same : length part ≡ length (take k (past i registers))
-  pub passed : Passed (take k (past i rights)) (getD waits i 0) (take k (past i registers)) cdm cds part cds′
+-- One slave has gone over the row: b are its banks, and `part` its registers afterwards, from `at` to `end`.
+pub record Gone (table : List ℕ) (i at end b : ℕ) (registers rights waits cdm cds part cds′ : List ℕ) : Type 0 where
+  pub banks : b ≡ getD table i 0
+  pub stop : end ≡ at + sizeOf b
+  pub small : i < length table
+  pub long : end ≤ length registers
+  pub same : length part ≡ length (take (end - at) (drop at registers))
+  pub passed : Passed b (take (end - at) (drop at rights)) (getD waits i 0) (take (end - at) (drop at registers)) cdm cds part cds′
 
-module _ {n i k : ℕ} {registers rights waits cdm cds part cds′ : List ℕ} (gone : Gone n i k registers rights waits cdm cds part cds′) where
+module _ {table : List ℕ} {i at end b : ℕ} {registers rights waits cdm cds part cds′ : List ℕ}
+    (gone : Gone table i at end b registers rights waits cdm cds part cds′) where
   abbrev front : List ℕ
-  front = take (registerCount * i) registers ++ part
+  front = take at registers ++ part
 
   abbrev stored : List ℕ
-  stored = take (registerCount * i) registers ++ (part ++ drop k (past i registers))
+  stored = take at registers ++ (part ++ drop (end - at) (drop at registers))
 
-  own : length part ≡ registerCount
-  own = gone .same ∙ own-long k i registers (gone .size) (gone .long)
-
-  front-long : length front ≡ registerCount * (i + 1)
+  front-long : length front ≡ end
   front-long =
-      length-append (take (registerCount * i) registers) part
-      ∙ omega (arith, length-take-le (registerCount * i) registers (omega (arith, gone .long)), own)
+      length-append (take at registers) part
+      ∙ omega (
+        arith,
+        gone .stop,
+        gone .same,
+        own-long at end registers (gone .long),
+        length-take-le at registers (omega (arith, gone .stop, gone .long)),
+      )
 
-  split : stored ≡ front ++ past (i + 1) registers
+  split : stored ≡ front ++ drop end registers
   split =
-      rw (gone .size, past-next i registers)
-      (sym (append-assoc (take (registerCount * i) registers) part (past (i + 1) registers)))
+      rw (skipped at end registers (omega (arith, gone .stop))) (sym (append-assoc (take at registers) part (drop end registers)))
 
-  behind : past (i + 1) stored ≡ past (i + 1) registers
-  behind = ap (past (i + 1)) split ∙ drop-at front (past (i + 1) registers) (registerCount * (i + 1)) front-long
+  behind : drop end stored ≡ drop end registers
+  behind = ap (drop end) split ∙ drop-at front (drop end registers) end front-long
 
-  before : take (registerCount * (i + 1)) stored ≡ front
-  before = ap (take (registerCount * (i + 1))) split ∙ take-at front (past (i + 1) registers) (registerCount * (i + 1)) front-long
+  before : take end stored ≡ front
+  before = ap (take end) split ∙ take-at front (drop end registers) end front-long
 
-  others : waiting n (i + 1) stored rights waits ≡ waiting n (i + 1) registers rights waits
+  others : waiting table (i + 1) end stored rights waits ≡ waiting table (i + 1) end registers rights waits
   unfolding waiting
   others = rw behind
 
   abbrev this : protocol.Slave
-  this = newBy (take registerCount (past i registers)) (take registerCount (past i rights)) (getD waits i 0)
+  this = newBy b (take (end - at) (drop at registers)) (take (end - at) (drop at rights)) (getD waits i 0)
 
-  this-gone : Passed (take registerCount (past i rights)) (getD waits i 0) (take registerCount (past i registers)) cdm cds part cds′
-  this-gone = rw (gone .size) at (gone .passed)
+  next : waiting table i at registers rights waits ≡ this ∷ waiting table (i + 1) end registers rights waits
+  next = waiting-next table i at end b registers rights waits (gone .small) (gone .banks) (gone .stop)
 
   bits : rowOf cds′ ≡ sentBy this (rowOf cdm) (rowOf cds)
-  bits = ap rowOf (this-gone .sent) ∙ row-num (sentBy this (rowOf cdm) (rowOf cds))
+  bits = ap rowOf (gone .passed .sent) ∙ row-num (sentBy this (rowOf cdm) (rowOf cds))
 
   pub stored-long : length stored ≡ length registers
   stored-long =
-      ap length split ∙ length-append front (past (i + 1) registers)
-      ∙ rw length-drop (omega (arith, front-long, gone .long))
+      ap length split ∙ length-append front (drop end registers) ∙ rw length-drop (omega (arith, front-long, gone .long))
 
   pub bits-next : map num (rowOf cds′) ≡ cds′
-  bits-next = ap (map num) bits ∙ sym (this-gone .sent)
+  bits-next = ap (map num) bits ∙ sym (gone .passed .sent)
 
-  pub sent-next : allSent (waiting n i registers rights waits) (rowOf cdm) (rowOf cds)
-      ≡ allSent (waiting n (i + 1) stored rights waits) (rowOf cdm) (rowOf cds′)
+  pub sent-next : allSent (waiting table i at registers rights waits) (rowOf cdm) (rowOf cds)
+      ≡ allSent (waiting table (i + 1) end stored rights waits) (rowOf cdm) (rowOf cds′)
   unfolding allSent
-  sent-next = rw (waiting-next n i registers rights waits (gone .small), others, bits)
+  sent-next = rw (next, others, bits)
 
-  pub gathered-next : gathered n i registers rights waits cdm cds ≡ gathered n (i + 1) stored rights waits cdm cds′
+  pub gathered-next : gathered table i at registers rights waits cdm cds ≡ gathered table (i + 1) end stored rights waits cdm cds′
   unfolding gathered allAfter registersOf
-  gathered-next =
-      rw (waiting-next n i registers rights waits (gone .small), others, bits, before, append-assoc, ← this-gone .memory-after)
+  gathered-next = rw (next, others, bits, before, append-assoc, ← gone .passed .memory-after)
 
 -- At last none are waiting.
-pub rowed : (n : ℕ) (rights waits registers cdm registers′ cds′ : List ℕ) (i : ℕ) → n ≤ i → length registers′ ≤ registerCount * i
+pub rowed : (table rights waits registers cdm registers′ cds′ : List ℕ) (i at : ℕ) → length table ≤ i → length registers′ ≤ at
     → map num (rowOf cds′) ≡ cds′
-    → allSent (waiting n i registers′ rights waits) (rowOf cdm) (rowOf cds′) ≡ answersFrom (memoriesOf n registers rights waits) (rowOf cdm)
-    → gathered n i registers′ rights waits cdm cds′ ≡ registersOf (memoriesAfter (memoriesOf n registers rights waits) (rowOf cdm))
-    → Rowed n rights waits registers cdm registers′ cds′
+    → allSent (waiting table i at registers′ rights waits) (rowOf cdm) (rowOf cds′)
+    ≡ answersFrom (memoriesOf table registers rights waits) (rowOf cdm)
+    → gathered table i at registers′ rights waits cdm cds′ ≡ registersOf (memoriesAfter (memoriesOf table registers rights waits) (rowOf cdm))
+    → Rowed table rights waits registers cdm registers′ cds′
 unfolding allSent allAfter gathered registersOf
-rowed n rights waits registers cdm registers′ cds′ i h l b a g =
-    let none : waiting n i registers′ rights waits ≡ [] = waiting-none n i registers′ rights waits h in
+rowed table rights waits registers cdm registers′ cds′ i at h l b a g =
+    let none : waiting table i at registers′ rights waits ≡ [] = waiting-none table i at registers′ rights waits h in
     record {
       row = sym b ∙ ap (map num) (rw none at a);
-      registers-after = sym (take-all (registerCount * i) registers′ l) ∙ sym (append-nil _) ∙ rw none at g;
+      registers-after = sym (take-all at registers′ l) ∙ sym (append-nil _) ∙ rw none at g;
     }

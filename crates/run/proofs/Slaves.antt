@@ -1,38 +1,69 @@
--- One slave over a row, column by column: what it has sent and what it has yet to send. Assumes nothing.
-use mathlib.Core.Path.{_≡_, refl, sym, subst, ap, _∙_}
+-- One slave over a row, column by column: the place that its address shows, what it has sent and what it has yet to send. Assumes nothing.
+use mathlib.Core.Path.{_≡_, refl, sym, ap, _∙_}
 use mathlib.Core.Bool.{Bool, true, false}
 use mathlib.Core.List.{List, [], _++_, map, append-nil, append-assoc}
+use mathlib.Core.Option.{Option, none, some}
 use Prim.Native.Nat.{ℕ, suc, _+_, _≤_, _<_}
 use native.Mathlib.Numerals.{add-one}
 use native.Mathlib.Omega.{arith}
 use mir.Val.{boolByte}
-use lib.ListN.{length, take, drop, getD, set, replicate, replicate-append-replicate, drop-of-length-le}
-use lib.Seq.{drop-cons, take-all, take-suc-set, drop-set-lt}
+use lib.ListN.{length, take, drop, getD, set, replicate, replicate-append-replicate, drop-of-length-le, List·getD-eq-default}
+use lib.Seq.{drop-cons, take-all, take-suc-set, drop-set-lt, set-out}
 use Rattle.protocol.specs.Bits.{num, bitOf, rowOf}
-use Rattle.protocol.specs.Memory.{Memory, stored}
+use Rattle.protocol.specs.Memory.{Memory, chosen, place, at, putAt, allows, holds, stored}
 use Rattle.protocol.specs.Slave as protocol
+use Rattle.protocol.proofs.Memories.{place-stays}
 use Rattle.protocol.proofs.Dress.{stepTo}
 use Rattle.slave.specs.Code.{stateOf, addressOf, SeenIn, Steps}
 use Rattle.slave.specs.declared.Slave.{Slave}
-use Rattle.slave.specs.declared.Seen.{Seen}
 use Rattle.slave.specs.declared.Turn.{Turn}
-use Rattle.run.specs.Parts.{sentBy, afterBy, memoryBy, newBy, Passed}
+use Rattle.run.specs.Run.{sizeOf}
+use Rattle.run.specs.Parts.{sentBy, afterBy, memoryBy, newBy, placedAt, shownIn, Passed}
 
 bool-num : (b : Bool) → boolByte b ≡ num b
 bool-num true = refl
 bool-num false = refl
 
--- The step of the code is a step over the slave's own registers and rights.
-pub own-step : (registers rights : List ℕ) (wait : ℕ) (s : Slave) (p : ℕ) (m b : Bool) (r : Turn) → p ≡ addressOf s
-    → Steps s (record { master = m; far = b; right = getD rights p 0; byte = getD registers p 0; wait = wait }) r
-    → protocol.step (protocol.slave (memoryBy registers rights wait) (stateOf s)) m b
-    ≡ stepTo (memoryBy (set registers p (r .byte)) rights wait) (stateOf (r .next)) (r .sent)
-unfolding stored
-own-step registers rights wait s p m b r here steps =
-    let k : Memory = memoryBy registers rights wait in
-    let seen : Seen = record { master = m; far = b; right = getD rights p 0; byte = getD registers p 0; wait = wait } in
-    let there : SeenIn k p seen = record { right-there = refl; byte-there = refl; wait-there = refl } in
-    rw here (steps .over k (subst (λ (q : ℕ). SeenIn k q seen) here there))
+-- What lies at the place of an address is what the slave's memory has there; where no register is shown, that place is past its registers.
+module _ (banks : ℕ) (registers rights : List ℕ) (wait : ℕ) (full : length registers ≡ sizeOf banks) (as-full : length rights ≡ sizeOf banks) where
+  abbrev own : Memory
+  own = memoryBy banks registers rights wait
+
+  found-at : (l : List ℕ) (p : Option ℕ) → length l ≡ sizeOf banks → at l p ≡ getD l (placedAt (sizeOf banks) p) 0
+  found-at l none e = sym (List·getD-eq-default l 0 (omega arith))
+  found-at l (some i) e = refl
+
+  put-there : (p : Option ℕ) (value : ℕ) → putAt registers p value ≡ set registers (placedAt (sizeOf banks) p) value
+  put-there none value = sym (set-out registers (sizeOf banks) value (omega arith))
+  put-there (some i) value = refl
+
+  stored-own : (address value : ℕ) → stored own address value ≡ memoryBy banks (set registers (shownIn banks registers address) value) rights wait
+  unfolding stored chosen shownIn
+  stored-own address value = rw (put-there (place own address) value)
+
+  -- The step of the code is a step over the slave's own registers and rights.
+  pub own-step : (s : Slave) (p : ℕ) (m b : Bool) (r : Turn) → p ≡ shownIn banks registers (addressOf s)
+      → Steps s (record { master = m; far = b; right = getD rights p 0; byte = getD registers p 0; wait = wait }) r
+      → protocol.step (protocol.slave own (stateOf s)) m b
+      ≡ stepTo (memoryBy banks (set registers p (r .byte)) rights wait) (stateOf (r .next)) (r .sent)
+  unfolding allows holds chosen shownIn
+  own-step s p m b r here steps =
+      let address : ℕ = addressOf s in
+      let there : SeenIn own address (record { master = m; far = b; right = getD rights p 0; byte = getD registers p 0; wait = wait })
+      = rw here (record {
+        right-there = λ write. rw (found-at rights (place own address) as-full);
+        byte-there = found-at registers (place own address) full;
+        wait-there = refl;
+      }) in
+      rw (here, ← stored-own address (r .byte)) (steps .over own there)
+
+  -- A store at an address leaves the place that the address shows.
+  pub place-kept : (address p value : ℕ) → p ≡ shownIn banks registers address → p ≡ shownIn banks (set registers p value) address
+  unfolding chosen shownIn
+  place-kept address p value here =
+      rw here
+      (ap (placedAt (sizeOf banks)) (sym (place-stays own address value address (λ e. omega arith)))
+      ∙ ap (λ (k : Memory). placedAt (sizeOf banks) (place k address)) (stored-own address value))
 
 -- A column: what is sent goes over to what was sent.
 module _ (s : protocol.Slave) (t : protocol.Step) (cdm cds : List ℕ) (i : ℕ) (small : i < length cdm) (room : i < length cds)
@@ -67,14 +98,15 @@ module _ (s : protocol.Slave) (t : protocol.Step) (cdm cds : List ℕ) (i : ℕ)
       (ap (λ (r : protocol.Step). afterBy (protocol.slaveOf r) (rowOf (drop (suc i) cdm)) (rowOf (drop (suc i) cds))) stepped)
 
 -- Past the last column.
-pub passed : (rights : List ℕ) (wait : ℕ) (registers cdm cds registers′ cds′ : List ℕ) (s : Slave) (i : ℕ) → length cdm ≤ i → length cds′ ≤ i
-    → take i cds′ ++ map num (sentBy (protocol.slave (memoryBy registers′ rights wait) (stateOf s)) (rowOf (drop i cdm)) (rowOf (drop i cds′)))
-    ≡ map num (sentBy (newBy registers rights wait) (rowOf cdm) (rowOf cds))
-    → afterBy (protocol.slave (memoryBy registers′ rights wait) (stateOf s)) (rowOf (drop i cdm)) (rowOf (drop i cds′))
-    ≡ afterBy (newBy registers rights wait) (rowOf cdm) (rowOf cds)
-    → Passed rights wait registers cdm cds registers′ cds′
+pub passed : (banks : ℕ) (rights : List ℕ) (wait : ℕ) (registers cdm cds registers′ cds′ : List ℕ) (s : Slave) (i : ℕ)
+    → length cdm ≤ i → length cds′ ≤ i
+    → take i cds′ ++ map num (sentBy (protocol.slave (memoryBy banks registers′ rights wait) (stateOf s)) (rowOf (drop i cdm)) (rowOf (drop i cds′)))
+    ≡ map num (sentBy (newBy banks registers rights wait) (rowOf cdm) (rowOf cds))
+    → afterBy (protocol.slave (memoryBy banks registers′ rights wait) (stateOf s)) (rowOf (drop i cdm)) (rowOf (drop i cds′))
+    ≡ afterBy (newBy banks registers rights wait) (rowOf cdm) (rowOf cds)
+    → Passed banks rights wait registers cdm cds registers′ cds′
 unfolding rowOf sentBy afterBy
-passed rights wait registers cdm cds registers′ cds′ s i past full a e =
+passed banks rights wait registers cdm cds registers′ cds′ s i past full a e =
     let ends : drop i cdm ≡ [] = drop-of-length-le cdm past in
     record {
       sent = sym (append-nil cds′) ∙ rw (ends, take-all i cds′ full) at a;

@@ -6,7 +6,7 @@ use Rattle.job.specs.declared.Outcome.{Outcome}
 use Rattle.job.proofs.Refusals.{ended-unique}
 use Rattle.run.specs.Run.{Ran}
 
-run-unique : {slaves : ℕ} {rights waits registers cdm cds : List ℕ} {a b : Outcome} {registers′ registers″ cds′ cds″ : List ℕ}
-    → Ran slaves rights waits registers cdm cds a registers′ cds′ → Ran slaves rights waits registers cdm cds b registers″ cds″
+run-unique : {slaves : ℕ} {table rights waits registers cdm cds : List ℕ} {a b : Outcome} {registers′ registers″ cds′ cds″ : List ℕ}
+    → Ran slaves table rights waits registers cdm cds a registers′ cds′ → Ran slaves table rights waits registers cdm cds b registers″ cds″
     → (a ≡ b) × (registers′ ≡ registers″) × (cds′ ≡ cds″)
 run-unique p q = let same = ended-unique (p .ends) (q .ends) in (same .0, cc, cc)

@@ -3,15 +3,16 @@
 use mathlib.Core.Path.{_≡_}
 use mathlib.Core.Bool.{Bool}
 use mathlib.Core.List.{List, [], _∷_, map}
-use Prim.Native.Nat.{ℕ, _*_, _≤_}
-use lib.ListN.{length}
-use Rattle.protocol.specs.Limits.{slaveLimit, registerCount}
+use mathlib.Core.Option.{Option, none, some}
+use Prim.Native.Nat.{ℕ, _*_}
+use lib.ListN.{length, getD}
+use Rattle.protocol.specs.Limits.{bankSize}
 use Rattle.protocol.specs.Bits.{num, rowOf}
 use Rattle.protocol.specs.Rest.{powerOn}
-use Rattle.protocol.specs.Memory.{Memory}
+use Rattle.protocol.specs.Memory.{Memory, placeOf}
 use Rattle.protocol.specs.Slave as protocol
 use Rattle.protocol.specs.Chain.{answersFrom, memoriesAfter}
-use Rattle.run.specs.Run.{memoriesOf, registersOf}
+use Rattle.run.specs.Run.{sizeOf, sizes, memoriesOf, registersOf}
 
 -- The bits that a slave sends, from the master's and its far neighbour's ..
 unfoldable pub sentBy : protocol.Slave → (ms bs : List Bool) → List Bool
@@ -25,27 +26,39 @@ afterBy s [] bs = s
 afterBy s (m ∷ ms) [] = s
 afterBy s (m ∷ ms) (b ∷ bs) = afterBy (protocol.slaveOf (protocol.step s m b)) ms bs
 
--- A slave's memory, of its registers, its rights and its waiting number ..
-abbrev pub memoryBy : (registers rights : List ℕ) → (wait : ℕ) → Memory
-memoryBy registers rights wait = record { registers = registers; rights = rights; wait = wait }
+-- A slave's memory, of its number of banks, its registers, its rights and its waiting number ..
+abbrev pub memoryBy : (banks : ℕ) → (registers rights : List ℕ) → (wait : ℕ) → Memory
+memoryBy banks registers rights wait = record { banks = banks; registers = registers; rights = rights; wait = wait }
 
 -- .. and that slave at power-on.
-abbrev pub newBy : (registers rights : List ℕ) → (wait : ℕ) → protocol.Slave
-newBy registers rights wait = protocol.slave (memoryBy registers rights wait) powerOn
+abbrev pub newBy : (banks : ℕ) → (registers rights : List ℕ) → (wait : ℕ) → protocol.Slave
+newBy banks registers rights wait = protocol.slave (memoryBy banks registers rights wait) powerOn
 
--- The lent registers, rights and waits hold so many slaves.
-pub record Holds (slaves : ℕ) (registers rights waits : List ℕ) : Type 0 where
-  pub few : slaves ≤ slaveLimit
-  pub all-registers : length registers ≡ registerCount * slaves
-  pub all-rights : length rights ≡ registerCount * slaves
-  pub all-waits : length waits ≡ slaves
+-- A place; where there is none, the one past a slave's registers: there nothing stands, and nothing is stored.
+abbrev pub placedAt : (past : ℕ) → Option ℕ → ℕ
+placedAt past none = past
+placedAt past (some i) = i
+
+-- The place of the register that an address shows, by the number of banks and the number in the bank register ..
+abbrev pub shownAt : (banks chosen address : ℕ) → ℕ
+shownAt banks chosen address = placedAt (sizeOf banks) (placeOf banks chosen address)
+
+-- .. and in the registers as they stand.
+unfoldable pub shownIn : (banks : ℕ) → (registers : List ℕ) → (address : ℕ) → ℕ
+shownIn banks registers address = shownAt banks (getD registers (bankSize * banks) 0) address
+
+-- The lent registers, rights and waits hold the slaves of a table.
+pub record Holds (table registers rights waits : List ℕ) : Type 0 where
+  pub all-registers : length registers ≡ sizes table
+  pub all-rights : length rights ≡ sizes table
+  pub all-waits : length waits ≡ length table
 
 -- One slave over a row: in `cds` its far neighbour's bits, and its own afterwards.
-pub record Passed (rights : List ℕ) (wait : ℕ) (registers cdm cds registers′ cds′ : List ℕ) : Type 0 where
-  pub sent : cds′ ≡ map num (sentBy (newBy registers rights wait) (rowOf cdm) (rowOf cds))
-  pub memory-after : memoryBy registers′ rights wait ≡ afterBy (newBy registers rights wait) (rowOf cdm) (rowOf cds) .memory
+pub record Passed (banks : ℕ) (rights : List ℕ) (wait : ℕ) (registers cdm cds registers′ cds′ : List ℕ) : Type 0 where
+  pub sent : cds′ ≡ map num (sentBy (newBy banks registers rights wait) (rowOf cdm) (rowOf cds))
+  pub memory-after : memoryBy banks registers′ rights wait ≡ afterBy (newBy banks registers rights wait) (rowOf cdm) (rowOf cds) .memory
 
 -- A whole row from power-on.
-pub record Rowed (count : ℕ) (rights waits registers cdm registers′ cds′ : List ℕ) : Type 0 where
-  pub row : cds′ ≡ map num (answersFrom (memoriesOf count registers rights waits) (rowOf cdm))
-  pub registers-after : registers′ ≡ registersOf (memoriesAfter (memoriesOf count registers rights waits) (rowOf cdm))
+pub record Rowed (table rights waits registers cdm registers′ cds′ : List ℕ) : Type 0 where
+  pub row : cds′ ≡ map num (answersFrom (memoriesOf table registers rights waits) (rowOf cdm))
+  pub registers-after : registers′ ≡ registersOf (memoriesAfter (memoriesOf table registers rights waits) (rowOf cdm))

@@ -1,11 +1,12 @@
-// The job run: a chain of 0 to 16 slaves over a master row. It returns Made with the number of columns, or Refused with 1 to 7
-// or 18 and every lent byte as it was.
+// The job run: a chain of 0 to 16 slaves, each of 1 to 8 banks, over a master row. It returns Made with the number of columns, or Refused
+// with 1 to 7, 18 or 19 and every lent byte as it was.
 ghost use mathlib.Core.Path.{_≡_};
-ghost use lib.ListN.{length, replicate};
-ghost use Rattle.protocol.specs.Limits.{registerCount};
+ghost use Prim.Native.Nat.{_≤_, _<_};
+ghost use lib.ListN.{length, replicate, getD, set};
+ghost use Rattle.protocol.specs.Limits.{slaveLimit, addressCount};
 ghost use Rattle.job.specs.Refusals.{first, given};
-ghost use Rattle.run.specs.Run.{refusals, Ran};
-ghost use Rattle.run.specs.Parts.{Holds, Passed, Rowed};
+ghost use Rattle.run.specs.Run.{sizeOf, sizes, areCounts, refusals, sizeRefusals, Ran};
+ghost use Rattle.run.specs.Parts.{shownAt, shownIn, Holds, Passed, Rowed};
 use job::Detail;
 use job::Outcome;
 use slave::Seen;
@@ -14,48 +15,86 @@ use slave::Slave;
 // Refusal 1: "more than 16 slaves".
 const SLAVES: usize = 16;
 
-// "A slave has 128 registers and one right for each".
-const REGISTERS: usize = 128;
+// Request 05: "1 to 8 banks of 64 bytes": the most banks of a slave ..
+const BANKS: u8 = 8;
+
+// .. and the bytes of a bank; as many are fixed.
+const BANK: usize = 64;
+
+// 000: "The bank selection (BSEL) byte is mapped to slave address 0x40."
+const BANK_REGISTER: usize = 64;
 
 // "0 none, 1 read, 2 write, 3 both".
 const RIGHTS: u8 = 3;
 
-// Runs the chain from power-on: `registers` and `rights` hold 128 bytes a slave and `waits` its waiting number, far slave first, `cdm`
-// the master row, and `cds` takes the answers.
+// Runs the chain from power-on, far slave first: `banks` holds its number of banks for each slave, `registers` and `rights` its banks in
+// order and then its 64 fixed bytes, `waits` its waiting number; `cdm` is the master row, and `cds` takes the answers.
 pub fn run(
     slaves: usize,
+    banks: &[u8],
     rights: &[u8],
     waits: &[u8],
     registers: &mut [u8],
     cdm: &[u8],
     cds: &mut [u8],
 ) -> Outcome
-    ensures { λ r. ⌜ Ran slaves (now (rights .entry)) (now (waits .entry)) (now (registers .entry)) (now (cdm .entry)) (now (cds .entry)) r (now (registers .exit)) (now (cds .exit)) ⌝ }
+    ensures { λ r. ⌜ Ran slaves (now (banks .entry)) (now (rights .entry)) (now (waits .entry)) (now (registers .entry)) (now (cdm .entry)) (now (cds .entry)) r (now (registers .exit)) (now (cds .exit)) ⌝ }
 {
-    let why = refusal(slaves, registers.len(), rights, waits.len(), cdm, cds.len());
+    let why = refusal(
+        slaves,
+        banks,
+        registers.len(),
+        rights,
+        waits.len(),
+        cdm,
+        cds.len(),
+    );
     if why != 0 {
         return Outcome::Refused(why, Detail::Alone);
     }
-    answer_row(slaves, rights, waits, registers, cdm, cds);
+    answer_row(banks, rights, waits, registers, cdm, cds);
     Outcome::Made(cdm.len())
 }
 
-// 1 to 7 or 18, or 0 where none of them is given.
+// 1 to 7, 18 or 19, or 0 where none of them is given.
 fn refusal(
     slaves: usize,
+    banks: &[u8],
     registers: usize,
     rights: &[u8],
     waits: usize,
     cdm: &[u8],
     columns: usize,
 ) -> u8
-    ensures { λ r. ⌜ given r ≡ first (refusals slaves registers (now (rights .entry)) waits (now (cdm .entry)) columns) ⌝ }
+    ensures { λ r. ⌜ given r ≡ first (refusals slaves (now (banks .entry)) registers (now (rights .entry)) waits (now (cdm .entry)) columns) ⌝ }
 {
     if SLAVES < slaves {
         1
-    } else if registers != REGISTERS * slaves {
+    } else if banks.len() != slaves {
+        19
+    } else if are_counts(banks) {
+        let bytes = sizes(banks);
+        size_refusal(slaves, bytes, registers, rights, waits, cdm, columns)
+    } else {
+        19
+    }
+}
+
+// 2 to 7 or 18, or 0, of slaves that have so many bytes.
+fn size_refusal(
+    slaves: usize,
+    bytes: usize,
+    registers: usize,
+    rights: &[u8],
+    waits: usize,
+    cdm: &[u8],
+    columns: usize,
+) -> u8
+    ensures { λ r. ⌜ given r ≡ first (sizeRefusals slaves bytes registers (now (rights .entry)) waits (now (cdm .entry)) columns) ⌝ }
+{
+    if registers != bytes {
         2
-    } else if rights.len() != REGISTERS * slaves {
+    } else if rights.len() != bytes {
         3
     } else if job::none_above(rights, RIGHTS) {
         if waits != slaves {
@@ -68,31 +107,71 @@ fn refusal(
     }
 }
 
+// Whether every number of the table is 1 to 8.
+fn are_counts(banks: &[u8]) -> bool
+    ensures { λ r. ⌜ r ≡ areCounts (now (banks .entry)) ⌝ }
+{
+    let mut i = 0;
+    while i < banks.len() {
+        if banks[i] < 1 {
+            return false;
+        }
+        if BANKS < banks[i] {
+            return false;
+        }
+        i += 1;
+    }
+    true
+}
+
+// The bytes of all slaves of a table.
+fn sizes(banks: &[u8]) -> usize
+    requires { ⌜ length (now banks) ≤ slaveLimit ⌝ }
+    ensures { λ r. ⌜ r ≡ sizes (now (banks .entry)) ⌝ }
+{
+    let mut bytes = 0;
+    let mut i = 0;
+    while i < banks.len() {
+        bytes += size_of(banks[i]);
+        i += 1;
+    }
+    bytes
+}
+
+// Request 05: "64 x (banks + 1) bytes a slave".
+fn size_of(banks: u8) -> usize
+    ensures { λ r. ⌜ (r ≡ sizeOf banks) × (r ≤ sizeOf 255) ⌝ }
+{
+    BANK * (banks as usize + 1)
+}
+
 // The chain from power-on, a slave a turn: "the bit enters at the far end as 0 and goes slave by slave to the master" (01, Chain). What
 // a slave sends hangs on the slaves before it alone, so each goes over the whole row, and no array of slaves is carried.
 fn answer_row(
-    slaves: usize,
+    banks: &[u8],
     rights: &[u8],
     waits: &[u8],
     registers: &mut [u8],
     cdm: &[u8],
     cds: &mut [u8],
 )
-    requires { ⌜ (Holds slaves (now registers) (now rights) (now waits)) × (length (now cds) ≡ length (now cdm)) ⌝ }
-    ensures { λ r. ⌜ Rowed slaves (now (rights .entry)) (now (waits .entry)) (now (registers .entry)) (now (cdm .entry)) (now (registers .exit)) (now (cds .exit)) ⌝ }
+    requires { ⌜ (Holds (now banks) (now registers) (now rights) (now waits)) × (length (now cds) ≡ length (now cdm)) ⌝ }
+    ensures { λ r. ⌜ Rowed (now (banks .entry)) (now (rights .entry)) (now (waits .entry)) (now (registers .entry)) (now (cdm .entry)) (now (registers .exit)) (now (cds .exit)) ⌝ }
 {
     clear(cds);
+    let mut at = 0;
     let mut i = 0;
-    while i < slaves {
-        let at = REGISTERS * i;
-        let end = at + REGISTERS;
+    while i < banks.len() {
+        let end = at + size_of(banks[i]);
         pass_slave(
+            banks[i],
             &rights[at..end],
             waits[i],
             &mut registers[at..end],
             cdm,
             cds,
         );
+        at = end;
         i += 1;
     }
 }
@@ -108,35 +187,88 @@ fn clear(cds: &mut [u8])
     }
 }
 
-// One slave over the whole row: `cds` holds its far neighbour's bits, and its own afterwards.
-fn pass_slave(rights: &[u8], wait: u8, registers: &mut [u8], cdm: &[u8], cds: &mut [u8])
-    requires { ⌜ (length (now registers) ≡ registerCount) × (length (now rights) ≡ registerCount) × (length (now cds) ≡ length (now cdm)) ⌝ }
-    ensures { λ r. ⌜ Passed (now (rights .entry)) wait (now (registers .entry)) (now (cdm .entry)) (now (cds .entry)) (now (registers .exit)) (now (cds .exit)) ⌝ }
+// One slave over the whole row: `cds` holds its far neighbour's bits, and its own afterwards. `at` is the place that the address `known`
+// shows: it stays while the slave is at that address, since a store there chooses a bank for other addresses alone.
+fn pass_slave(banks: u8, rights: &[u8], wait: u8, registers: &mut [u8], cdm: &[u8], cds: &mut [u8])
+    requires { ⌜ (length (now registers) ≡ sizeOf banks) × (length (now rights) ≡ sizeOf banks) × (length (now cds) ≡ length (now cdm)) ⌝ }
+    ensures { λ r. ⌜ Passed banks (now (rights .entry)) wait (now (registers .entry)) (now (cdm .entry)) (now (cds .entry)) (now (registers .exit)) (now (cds .exit)) ⌝ }
 {
     let mut slave = Slave::new();
+    let mut known = 0;
+    let mut at = shown(banks, registers[BANK * banks as usize], known);
     let mut i = 0;
     while i < cdm.len() {
         let master = cdm[i] == 1;
         let far = cds[i] == 1;
         if slave.silent() {
-            cds[i] = far as u8;
             let next = slave.heard(master);
             slave = next;
+            cds[i] = far as u8;
         } else {
-            let at = slave.address();
+            let address = slave.address();
+            at = found(banks, registers, known, at, address);
+            known = address;
             let seen = Seen {
                 master: master,
                 far: far,
-                right: rights[at],
-                byte: registers[at],
+                right: held(rights, at),
+                byte: held(registers, at),
                 wait: wait,
             };
             let turn = slave.step(seen);
-            registers[at] = turn.byte;
             cds[i] = turn.sent as u8;
+            keep(registers, at, turn.byte);
             let next = turn.next;
             slave = next;
         }
         i += 1;
+    }
+}
+
+// The place that an address shows now; that of `known` is at hand.
+fn found(banks: u8, registers: &[u8], known: usize, at: usize, address: usize) -> usize
+    requires { ⌜ (length (now registers) ≡ sizeOf banks) × (at ≡ shownIn banks (now registers) known) × (address < addressCount) ⌝ }
+    ensures { λ r. ⌜ r ≡ shownIn banks (now (registers .entry)) address ⌝ }
+{
+    if address == known {
+        at
+    } else {
+        shown(banks, registers[BANK * banks as usize], address)
+    }
+}
+
+// The place that an address shows in a slave's registers, or the one past them where it shows none (protocol's specs/Memory).
+fn shown(banks: u8, chosen: u8, address: usize) -> usize
+    requires { ⌜ address < addressCount ⌝ }
+    ensures { λ r. ⌜ r ≡ shownAt banks chosen address ⌝ }
+{
+    let fixed = BANK * banks as usize;
+    let past = size_of(banks);
+    if address < BANK {
+        if chosen < banks {
+            BANK * chosen as usize + address
+        } else {
+            past
+        }
+    } else if address == BANK_REGISTER {
+        if banks == 1 { past } else { fixed }
+    } else {
+        fixed + (address - BANK)
+    }
+}
+
+// The byte at a place; past the end there is 0.
+fn held(bytes: &[u8], at: usize) -> u8
+    ensures { λ r. ⌜ r ≡ getD (now (bytes .entry)) at 0 ⌝ }
+{
+    if at < bytes.len() { bytes[at] } else { 0 }
+}
+
+// The byte stands at the place from now on; past the end nothing is stored.
+fn keep(registers: &mut [u8], at: usize, byte: u8)
+    ensures { λ r. ⌜ now (registers .exit) ≡ set (now (registers .entry)) at byte ⌝ }
+{
+    if at < registers.len() {
+        registers[at] = byte;
     }
 }

@@ -7,7 +7,7 @@ use native.Mathlib.Nat.{mod-mod}
 use native.Mathlib.Omega.{arith}
 use borrow.Author.Tests.{lt-ltb, le-ltb, eq-eqb, ne-eqb, ltb-false}
 use lib.Dec.{ltb, eqb}
-use Rattle.protocol.specs.Limits.{headerColumns, idCount, lockFirst, lockLast, registerCount}
+use Rattle.protocol.specs.Limits.{headerColumns, idCount, lockFirst, lockLast, addressCount}
 use Rattle.protocol.specs.Bits.{bit, push}
 use Rattle.protocol.specs.Division.{headerBits, checkWidth, fits}
 use Rattle.protocol.specs.Header.{access, header}
@@ -89,7 +89,7 @@ module _ (k : Memory) (column w number : ℕ) (m b : Bool) {w′ : ℕ} where
 
   pub head-called : {r : Bool} → w′ ≡ push w m → headerColumns ≤ column → CalledAs w′ number r → r ≡ true
       → protocol.speak k (protocol.head (min column (headerColumns + 1)) w (numberOf number)) m b
-      ≡ protocol.turn (protocol.askR (w′ / 2 ^ checkWidth % registerCount % registerCount)) b k
+      ≡ protocol.turn (protocol.askR (w′ / 2 ^ checkWidth % addressCount % addressCount)) b k
   unfolding protocol.speak CalledAs
   head-called e h g t =
       rw (
@@ -97,7 +97,7 @@ module _ (k : Memory) (column w number : ℕ) (m b : Bool) {w′ : ℕ} where
         ← e,
         g,
         t,
-        mod-mod (w′ / 2 ^ checkWidth) registerCount,
+        mod-mod (w′ / 2 ^ checkWidth) addressCount,
       )
 
   pub head-deaf : {r : Bool} → w′ ≡ push w m → headerColumns ≤ column → CalledAs w′ number r → r ≡ false

@@ -2,11 +2,11 @@
 use mathlib.Core.Path.{_≡_, refl}
 use mathlib.Core.Bool.{Bool}
 use Prim.Native.Nat.{ℕ, _≤_, _<_}
-use lib.Seq.{set-getD}
 use Rattle.protocol.specs.Limits.{restZeros}
 use Rattle.protocol.specs.Rest.{Timed, power, rest, frame}
 use Rattle.protocol.specs.Memory.{Memory, stored}
 use Rattle.protocol.specs.Slave as protocol
+use Rattle.protocol.proofs.Memories.{stored-held}
 use Rattle.protocol.proofs.Dress.{stepTo}
 use Rattle.machine.specs.Zeros.{zerosAfter, judgedAt, endedAt}
 use Rattle.machine.proofs.Zeros.{judge-on, judge-out}
@@ -20,8 +20,7 @@ use Rattle.slave.specs.declared.Turn.{Turn}
 
 -- What stands at an address, stored there again, changes nothing.
 pub kept : (k : Memory) (address : ℕ) (seen : Seen) → SeenIn k address seen → stored k address (seen .byte) ≡ k
-unfolding stored
-kept k address seen s = rw (← s .byte-there, set-getD (k .registers) address 0)
+kept k address seen s = rw (← s .byte-there) (stored-held k address)
 
 module _ {phase : Phase} {zeros : ℕ} {b : Body} {seen : Seen} {phase′ : Phase} {zeros′ : ℕ} {b′ : Body} {sent : Bool} {r : Turn} where
   -- A turn that stores nothing.

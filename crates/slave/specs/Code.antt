@@ -5,13 +5,12 @@ use mathlib.Core.Bool.{Bool, true, false, cond, _&&_}
 use mathlib.Core.Option.{Option, none, some}
 use Prim.Native.Nat.{ℕ, _+_, _-_, _/_, _%_, _^_, min}
 use lib.Dec.{ltb}
-use lib.ListN.{getD}
-use Rattle.protocol.specs.Limits.{headerColumns, idCount, registerCount, byteLimit}
+use Rattle.protocol.specs.Limits.{headerColumns, idCount, addressCount, byteLimit}
 use Rattle.protocol.specs.Bits.{num, bit}
 use Rattle.protocol.specs.Rest.{Timed, power, rest, frame, Judged, still, ends, meant, judge}
 use Rattle.protocol.specs.Division.{checkWidth}
 use Rattle.protocol.specs.Header.{header}
-use Rattle.protocol.specs.Memory.{Memory, stored}
+use Rattle.protocol.specs.Memory.{Memory, allows, holds, stored}
 use Rattle.protocol.specs.Slave as protocol
 use Rattle.protocol.specs.Slave.{deaf, locks, head, askR, askW, byteS, sends, takes, askP}
 use Rattle.machine.specs.Zeros.{timed, judgedAt}
@@ -29,15 +28,15 @@ numberOf n = cond (ltb n idCount) (some n) none
 
 -- The address that a body is at.
 abbrev pub addressBy : Body → ℕ
-addressBy b = b .address % registerCount
+addressBy b = b .address % addressCount
 
 -- The address before an address, round the end: in AskP the body's is the next one.
 abbrev pub before : ℕ → ℕ
-before address = (address + (registerCount - 1)) % registerCount
+before address = (address + (addressCount - 1)) % addressCount
 
 -- The address behind an address, round the end.
 abbrev pub nextAddress : ℕ → ℕ
-nextAddress address = (address % registerCount + 1) % registerCount
+nextAddress address = (address % addressCount + 1) % addressCount
 
 -- A header's columns end at headerColumns; the locks' count leads at most one further.
 abbrev pub nextColumn : ℕ → ℕ
@@ -114,10 +113,10 @@ saysNothing (frame z p) = isDeaf p
 abbrev pub turned : Phase → (zeros : ℕ) → Body → (sent : Bool) → (byte : ℕ) → Turn
 turned phase zeros b sent byte = record { next = record { phase = phase; zeros = zeros; body = b }; sent = sent; byte = byte }
 
--- What was seen at an address is in a slave's memory, and so is the waiting number.
+-- What was seen at an address is what a slave's memory allows and holds there, and its waiting number.
 pub record SeenIn (k : Memory) (address : ℕ) (seen : Seen) : Type 0 where
-  pub right-there : getD (k .rights) address 0 ≡ seen .right
-  pub byte-there : getD (k .registers) address 0 ≡ seen .byte
+  pub right-there : (write : Bool) → allows k write address ≡ bit (num write) (seen .right)
+  pub byte-there : holds k address ≡ seen .byte
   pub wait-there : k .wait ≡ seen .wait
 
 -- The step of protocol's slave that a turn stands for: the byte stands at the address, and no other changes.
@@ -145,9 +144,9 @@ lockedAs column number far = protocol.lock (min column headerColumns) (numberOf 
 -- Whether a header's word calls the slave of a number: then to its address, else it is deaf.
 unfoldable pub CalledAs : (word number : ℕ) → Bool → Type 0
 CalledAs word number r =
-    protocol.called (header word) (numberOf number) ≡ cond r (protocol.askR (word / 2 ^ checkWidth % registerCount)) protocol.deaf
+    protocol.called (header word) (numberOf number) ≡ cond r (protocol.askR (word / 2 ^ checkWidth % addressCount)) protocol.deaf
 
 -- A P is followed by a further byte: the last was good, the address is not the last, the right allows it, and bytes are left.
 unfoldable pub goesOn : Body → (right : ℕ) → Bool
 goesOn b right =
-    b .good && (ltb (before (addressBy b) + 1) registerCount && bit (num (b .write)) right && ltb (b .nth) byteLimit)
+    b .good && (ltb (before (addressBy b) + 1) addressCount && bit (num (b .write)) right && ltb (b .nth) byteLimit)

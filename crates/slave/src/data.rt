@@ -11,9 +11,9 @@ use crate::Turn;
 use crate::access::allowed;
 use crate::made::UNASKED;
 use crate::made::said;
+use machine::ADDRESSES;
 use machine::BYTES;
 use machine::CHECKS;
-use machine::REGISTERS;
 use machine::TOP_BIT;
 
 // A byte's bits are counted down to 0; a count is read below the next power of two.
@@ -119,7 +119,7 @@ fn goes_on(body: Body, right: u8) -> bool
     ensures { λ r. ⌜ r ≡ goesOn body right ⌝ }
 {
     if body.good {
-        if body.address % REGISTERS == 0 {
+        if body.address % ADDRESSES == 0 {
             false
         } else if body.nth < BYTES {
             allowed(right, body.write)
@@ -135,7 +135,7 @@ fn goes_on(body: Body, right: u8) -> bool
 fn next_address(address: u64) -> u64
     ensures { λ r. ⌜ r ≡ nextAddress address ⌝ }
 {
-    (address % REGISTERS + 1) % REGISTERS
+    (address % ADDRESSES + 1) % ADDRESSES
 }
 
 // A byte with its check bits behind it.

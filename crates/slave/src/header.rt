@@ -7,13 +7,13 @@ use crate::Seen;
 use crate::Turn;
 use crate::made::NONE;
 use crate::made::said;
+use machine::ADDRESSES;
 use machine::CHECKS;
 use machine::CTS;
 use machine::HEADER;
 use machine::IDS;
 use machine::LOCK_FIRST;
 use machine::LOCK_LAST;
-use machine::REGISTERS;
 
 // What a lock column makes of it: the number that it holds then, and the bit that it sends.
 struct Lock {
@@ -92,7 +92,7 @@ pub fn head(zeros: u64, body: Body, seen: Seen) -> Turn
         n.column = body.column + 1;
         said(Phase::Head, zeros, n, seen.far, seen.byte)
     } else if called(word, body.number) {
-        n.address = word / CHECKS % REGISTERS;
+        n.address = word / CHECKS % ADDRESSES;
         said(Phase::AskR, zeros, n, seen.far, seen.byte)
     } else {
         said(Phase::Deaf, zeros, n, seen.far, seen.byte)
@@ -105,7 +105,7 @@ fn called(word: u64, number: u64) -> bool
 {
     if checkbits::header_fits(word) {
         if word / CHECKS / CTS % 2 == 1 {
-            number == word / CHECKS / REGISTERS % IDS
+            number == word / CHECKS / ADDRESSES % IDS
         } else {
             false
         }

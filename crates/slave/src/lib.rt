@@ -7,7 +7,7 @@ mod made;
 ghost use mathlib.Core.Path.{_≡_};
 ghost use mathlib.Core.Bool.{cond};
 ghost use Prim.Native.Nat.{_<_};
-ghost use Rattle.protocol.specs.Limits.{registerCount};
+ghost use Rattle.protocol.specs.Limits.{addressCount};
 ghost use Rattle.protocol.specs.Rest.{powerOn, frame, timer};
 ghost use Rattle.protocol.specs.Slave.{begun};
 ghost use Rattle.slave.specs.Code.{stateOf, stateBy, addressOf, saysNothing, heardBy, waitedBy, Meets, Steps};
@@ -19,7 +19,7 @@ use data::sends;
 use data::takes;
 use header::head;
 use header::locks;
-use machine::REGISTERS;
+use machine::ADDRESSES;
 use machine::REST;
 use made::NONE;
 use made::said;
@@ -98,9 +98,9 @@ impl Slave {
 
     // The address of the one register that it looks at in this column.
     pub fn address(self) -> usize
-        ensures { λ r. ⌜ (r ≡ addressOf self) × (r < registerCount) ⌝ }
+        ensures { λ r. ⌜ (r ≡ addressOf self) × (r < addressCount) ⌝ }
     {
-        (self.body.address % REGISTERS) as usize
+        (self.body.address % ADDRESSES) as usize
     }
 
     // Whether it has nothing to say, whatever it sees: it passes on its far neighbour's bit and looks at no register.

@@ -44,7 +44,7 @@ fn requested(what: &[u8], outcome: Outcome) {
     ended(outcome);
 }
 
-// The columns `from` to `end` of a row, run over one slave with all rights, its register 44 holding 5A and the rest 0.
+// The columns `from` to `end` of a row, run over one slave of one bank with all rights, its register 44 holding 5A and the rest 0.
 fn answered(what: &[u8], row: &[u8], from: usize, end: usize) {
     io::write_all(STDOUT_FILENO, what);
     let mut registers = [0u8; 128];
@@ -70,9 +70,10 @@ fn rows(cdm: &[u8], registers: &mut [u8], cds: &mut [u8]) {
 
 // The run's end, the master row and the answers.
 fn told(cdm: &[u8], registers: &mut [u8], cds: &mut [u8]) {
+    let banks = [1u8; 1];
     let rights = [3u8; 128];
     let waits = [0u8; 1];
-    ended(run::run(1, &rights, &waits, registers, cdm, cds));
+    ended(run::run(1, &banks, &rights, &waits, registers, cdm, cds));
     line(b"cdm ", cdm);
     line(b"cds ", cds);
 }

@@ -7,7 +7,7 @@ use borrow.Author.Needs.{needs}
 use borrow.Author.Tests.{ltb-false}
 use lib.Dec.{ltb}
 use lib.ListN.{length}
-use Rattle.protocol.specs.Entries.{Entry}
+use Rattle.protocol.specs.Banks.{Banked}
 use Rattle.protocol.specs.Layout.{current, entriesIn, isList}
 use Rattle.protocol.specs.Text.{listHeader, entryLines, listText}
 use Rattle.job.proofs.Refusals.{ended-given}
@@ -18,7 +18,7 @@ use Rattle.list_text.proofs.list_to_text.Statement.{statement}
 use Rattle.list_text.proofs.list_to_text.Tie as tie
 
 -- The list's entries, and the room that is lent.
-abbrev entriesOf : tie.Start → List Entry
+abbrev entriesOf : tie.Start → List Banked
 entriesOf s = entriesIn current (s .args .list .now)
 
 abbrev room : tie.Start → ℕ

@@ -8,7 +8,7 @@ use lib.ListN.{drop}
 use Rattle.protocol.specs.Layout.{Field, numbers, order}
 use Rattle.protocol.specs.Text.{cells, entryLine}
 use Rattle.lists.specs.Fields.{entryOf}
-use Rattle.names.specs.Names.{nameOf, names}
+use Rattle.names.specs.Names.{nameOf, names, namesBankOf}
 use Rattle.print.proofs.Laid.{laid-length}
 use Rattle.list_text.proofs.Parts.{Left, line-length, left-all, left-behind, left-same, field-room, field-behind, line-end}
 use Rattle.list_text.proofs.put_line.Statement.{statement}
@@ -76,20 +76,35 @@ behind-address : (c : tie.After-put-field4)
 unfolding names
 behind-address c = field-behind _ Field.address _ (c .before .before .has-field2 .ensures) (behind-id (id c)) (c .put-field4 .ensures)
 
-has-field-requires-3 : tie.Need-has-field-requires-3
-has-field-requires-3 c κs = (begin (name (column (start (id (c .before .before .before))))) .pre .0, omega arith)
+has-bank-requires : tie.Need-has-bank-requires
+has-bank-requires c κs = begin (name (column (start (id (c .before .before .before))))) .pre .0
 
 put-field-requires-5 : tie.Need-put-field-requires-5
-unfolding names
-put-field-requires-5 c κs = field-room _ Field.value _ (c .before .has-field3 .ensures) (behind-address (c .before .before .before .before .before))
+unfolding namesBankOf
+put-field-requires-5 c κs = field-room _ Field.bank _ (c .before .has-bank .ensures) (behind-address (c .before .before .before .before .before))
 
 abbrev address : tie.After-put-field5 → tie.After-put-field4
 address c = c .before .before .before .before .before .before
 
-behind-value : (c : tie.After-put-field5)
-    → LeftOf (begin (name (column (start (id (address c)))))) Field.value (c .put-field5 .result) (c .put-field5 .last .0)
+behind-bank : (c : tie.After-put-field5)
+    → LeftOf (begin (name (column (start (id (address c)))))) Field.bank (c .put-field5 .result) (c .put-field5 .last .0)
+unfolding namesBankOf
+behind-bank c = field-behind _ Field.bank _ (c .before .before .has-bank .ensures) (behind-address (address c)) (c .put-field5 .ensures)
+
+has-field-requires-3 : tie.Need-has-field-requires-3
+has-field-requires-3 c κs = (begin (name (column (start (id (address (c .before .before .before)))))) .pre .0, omega arith)
+
+put-field-requires-6 : tie.Need-put-field-requires-6
 unfolding names
-behind-value c = field-behind _ Field.value _ (c .before .before .has-field3 .ensures) (behind-address (address c)) (c .put-field5 .ensures)
+put-field-requires-6 c κs = field-room _ Field.value _ (c .before .has-field3 .ensures) (behind-bank (c .before .before .before .before .before))
+
+abbrev bank : tie.After-put-field6 → tie.After-put-field5
+bank c = c .before .before .before .before .before .before
+
+behind-value : (c : tie.After-put-field6)
+    → LeftOf (begin (name (column (start (id (address (bank c))))))) Field.value (c .put-field6 .result) (c .put-field6 .last .0)
+unfolding names
+behind-value c = field-behind _ Field.value _ (c .before .before .has-field3 .ensures) (behind-bank (bank c)) (c .put-field6 .ensures)
 
 slice-write-out : tie.Need-slice-write-out
 unfolding cells
@@ -100,7 +115,7 @@ unfolding cells
 add-result c =
     let left = behind-value (c .before .before) in
     let same = left-same left in
-    let good = begin (name (column (start (id (address (c .before .before)))))) .good in
+    let good = begin (name (column (start (id (address (bank (c .before .before))))))) .good in
     search needs
 
 same-length : tie.Need-same-length
@@ -122,9 +137,12 @@ put-line-spec =
     (λ c κs. search needs)
     (λ c. search needs)
     put-field-requires-4
-    has-field-requires-3
+    has-bank-requires
     (λ c. search needs)
     put-field-requires-5
+    has-field-requires-3
+    (λ c. search needs)
+    put-field-requires-6
     slice-write-out
     add-result
     same-length

@@ -9,7 +9,7 @@ use Rattle.lists.proofs.entry_at.Tie as tie
 returns : tie.Need-returns
 unfolding fieldsAt numberAt
 returns c =
-    let started = c .before .before .before in
+    let started = c .before .before .before .before in
     let columned = started .before .before .before in
     let i = columned .before .before .before .before .before .args .i in
     rw (add-zero i, columned .two-bytes .ensures, started .two-bytes2 .ensures)
@@ -31,6 +31,8 @@ entry-at-spec =
     (λ c. search needs)
     (λ c. search needs)
     (λ c κs. search needs)
+    (λ c. search needs)
+    (λ c. search needs)
     (λ c. search needs)
     (λ c. search needs)
     (λ c. search needs)

@@ -16,32 +16,15 @@ returns-2 c = search cases
 
 returns-3 : tie.Need-returns-3
 unfolding refusals first
-returns-3 c = search cases
+returns-3 c =
+    let counted = c .before .before in
+    rw (← counted .before .are-counts .ensures, counted .if3 .taken, c .size-refusal .ensures, c .before .sizes .ensures) (search cases)
 
 returns-4 : tie.Need-returns-4
 unfolding refusals first
-returns-4 c = rw (← c .before .before .none-above .ensures, c .before .if4 .taken) (search cases)
-
-returns-5 : tie.Need-returns-5
-unfolding refusals first
-returns-5 c =
-    rw (← c .before .before .before .none-above .ensures, c .before .before .if4 .taken, c .wrong-row .ensures) (search cases)
-
-returns-6 : tie.Need-returns-6
-unfolding refusals first
-returns-6 c = rw (← c .before .none-above .ensures, c .if4 .left) (search cases)
+returns-4 c = rw (← c .before .are-counts .ensures, c .if3 .left) (search cases)
 
 pub refusal-spec : {M : Type 1} → statement M
 refusal-spec =
     tie.close
-    (tie.spec
-    (λ c. search needs)
-    (λ c. search needs)
-    (λ c κs. search needs)
-    (λ c κs. search needs)
-    returns
-    returns-2
-    returns-3
-    returns-4
-    returns-5
-    returns-6)
+    (tie.spec (λ c κs. search needs) (λ c κs. search needs) (λ c κs. search needs) returns returns-2 returns-3 returns-4)

@@ -6,22 +6,22 @@ use Rattle.run.proofs.run.Statement.{statement}
 use Rattle.run.proofs.run.Tie as tie
 
 returns : tie.Need-returns
-returns c = ran-refused _ _ _ _ _ _ _ (c .before .refusal .ensures) (c .if1 .taken)
+returns c = ran-refused _ _ _ _ _ _ _ _ (c .before .refusal .ensures) (c .if1 .taken)
 
 answer-row-requires : tie.Need-answer-row-requires
 answer-row-requires c κs =
     let through = c .before .before in
-    let a = through .before .before .before .before .before .before .before .args in
+    let a = through .before .before .before .before .before .before .before .before .args in
     let e = gave-none _ (through .before .refusal .ensures) (through .if1 .left) in (
-      held (a .slaves) (a .registers .now) (a .rights .now) (a .waits .now) (a .cdm .now) (a .cds .now) e,
-      same-rows (a .slaves) (a .registers .now) (a .rights .now) (a .waits .now) (a .cdm .now) (a .cds .now) e,
+      held (a .slaves) (a .banks .now) (a .registers .now) (a .rights .now) (a .waits .now) (a .cdm .now) (a .cds .now) e,
+      same-rows (a .slaves) (a .banks .now) (a .registers .now) (a .rights .now) (a .waits .now) (a .cdm .now) (a .cds .now) e,
     )
 
 returns-2 : tie.Need-returns-2
 returns-2 c =
     let row = c .before .before .before .before .answer-row in
     let through = c .before .before .before .before .before .before .before in
-    ran-made _ _ _ _ _ _ _ _ (gave-none _ (through .before .refusal .ensures) (through .if1 .left)) (row .ensures)
+    ran-made _ _ _ _ _ _ _ _ _ (gave-none _ (through .before .refusal .ensures) (through .if1 .left)) (row .ensures)
     (row .kept .1 .1 .1 .0) (row .kept .1 .1 .1 .1 .1 .0)
 
 pub run-spec : {M : Type 1} → statement M
