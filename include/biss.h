@@ -4,14 +4,14 @@
  * BISS_REFUSED set, a refusal, and then no lent byte has changed. biss_is_refused, biss_refusal, biss_line and biss_byte below read an
  * answer. Of a job's refusals the first that holds is told, in the order that its call names:
  *
- *    1  more than 16 slaves                           12  list length no multiple of 8, or a kind outside 1 to 16
- *    2  registers not 128 x slaves bytes              13  a wrong byte in the header line
- *    3  rights not 128 x slaves bytes                 14  digit not 0 or 1
+ *    1  more than 16 slaves                           12  list length no multiple of 9, or a kind outside 1 to 16
+ *    2  registers not 64 x (banks + 1) bytes a slave  13  a wrong byte in the header line
+ *    3  rights not 64 x (banks + 1) bytes a slave     14  digit not 0 or 1
  *    4  a right above 3                               15  tab missing
  *    5  a row of more than 4,096 columns              16  line feed missing
  *    6  two rows of different length                  17  the text ends inside a line
  *    7  a row byte that is not 0 or 1                 18  waits not one byte per slave
- *    8  opening column greater than the length
+ *    8  opening column greater than the length        19  banks not one number of 1 to 8 per slave
  *    9  the result needs more room than was lent
  *   10  id over 7, address over 127, CMD over 3, count 0 or over 64, or address + count over 128
  *
@@ -21,8 +21,16 @@
  *
  * A buffer is a pointer and its length in bytes. It has to be as long as is said, and a buffer that a call writes must not overlap
  * another of the same call: this is all that a caller has to see to, for C cannot check it. A pointer of length 0 is not followed.
- * A row is one byte a column, 0 or 1; registers and rights are 128 bytes a slave, waits one, the far slave first; an entry is its kind,
- * column, start, ID, address and value: one byte each, column and start two, high byte first. Texts are not ended by a zero byte.
+ * A row is one byte a column, 0 or 1; registers and rights are 64 x (banks + 1) bytes a slave, banks and waits one, the far slave first;
+ * an entry is its kind, column, start, ID, address, bank and value: one byte each, column and start two, high byte first. Texts are not
+ * ended by a zero byte.
+ *
+ * A slave has 1 to 8 banks of 64 registers, numbered from 0, and 64 fixed registers. In the buffers its banks stand in order and then the
+ * fixed ones, rights alike, so that a slave of one bank has its 128 registers at their addresses. The addresses 0 to 63 show the bank
+ * whose number the bank register holds, the first fixed one (BISS_BANK_REGISTER), and 64 to 127 the fixed ones. While it holds a number
+ * that is none of the slave's banks, every access at 0 to 63 is refused. A write to it counts from the next byte of an access on. A slave
+ * of one bank refuses to read and to write it, whatever the right there; as it was lent it names the bank all the same: 0 shows the bank,
+ * and any other number shuts 0 to 63 for the whole run.
  *
  * A slave's waiting number, 0 to 255, says how often it answers 0 to S = 1 before it confirms S with 1, while the master repeats S: at
  * every byte of a read, and at every byte of a write but the first. A master that sends 0 instead gives up, and the access has ended. */
@@ -42,18 +50,33 @@ static inline uint64_t biss_line(uint64_t answer) { return biss_is_refused(answe
 static inline unsigned biss_byte(uint64_t answer) { return biss_is_refused(answer) ? (unsigned)(answer >> 6) & 7 : 0; }
 
 /* Where each field of an entry begins, and how many bytes an entry has. */
-enum { BISS_KIND = 0, BISS_COLUMN = 1, BISS_START = 3, BISS_ID = 5, BISS_ADDRESS = 6, BISS_VALUE = 7, BISS_ENTRY_BYTES = 8 };
+enum {
+    BISS_KIND = 0,
+    BISS_COLUMN = 1,
+    BISS_START = 3,
+    BISS_ID = 5,
+    BISS_ADDRESS = 6,
+    BISS_BANK = 7,
+    BISS_VALUE = 8,
+    BISS_ENTRY_BYTES = 9,
+};
 
 /* The column of an entry, and that of the start bit S of its frame; both count from the start of the row, wherever the reader opened. */
 static inline size_t biss_column(const uint8_t *entry) { return (size_t)entry[BISS_COLUMN] << 8 | entry[BISS_COLUMN + 1]; }
 static inline size_t biss_start(const uint8_t *entry) { return (size_t)entry[BISS_START] << 8 | entry[BISS_START + 1]; }
 
-/* The master zeros that stand before every start bit. A reader that opens at biss_start(entry) - BISS_REST lists that entry again, byte
- * for byte: it lists just what the first list has from the entry's frame on. */
+/* An entry whose kind names an address names a bank too where the address is 0 to 63: the value that was last written to the bank
+ * register of its ID before it in the list (kind 11 alone, and not 13 or 14), or BISS_NO_BANK_YET where the list has no such write before
+ * it. Elsewhere the byte is 0, and `-` in a text. A bank register that holds 255 looks the same as none written, and is no bank either. */
+enum { BISS_BANK_REGISTER = 64, BISS_NO_BANK_YET = 255 };
+
+/* The master zeros that stand before every start bit. A reader that opens at biss_start(entry) - BISS_REST lists that entry again, and
+ * just what the first list has from the entry's frame on: byte for byte, but for the bank. The bank is the same too once the bank register
+ * of that ID has been written in the new list; before it is BISS_NO_BANK_YET. */
 enum { BISS_REST = 14 };
 
 /* The bytes of the header of a list's text, and the most that the line of an entry has. */
-enum { BISS_LIST_HEADER_BYTES = 36, BISS_LIST_LINE_BYTES = 33 };
+enum { BISS_LIST_HEADER_BYTES = 41, BISS_LIST_LINE_BYTES = 36 };
 
 /* Builds the master row of a read of `count` registers of the slave `id`, from `address` on, into the first bytes of `out`. S is repeated
  * `wait` times at every byte, for a slave with this waiting number: 32 columns, and 14 + wait a byte. Refusals 10, 5, 9. */
@@ -68,11 +91,12 @@ uint64_t biss_build_write(uint8_t id, uint8_t address, const uint8_t *bytes, siz
  * the lowest the one with ID 7. With `ids` 0 it is a broadcast, to every slave. Refusals 10, 9. */
 uint64_t biss_build_command(uint8_t ids, uint8_t cmd, uint8_t *out, size_t out_length);
 
-/* Runs a chain of slaves with the waiting numbers `waits` from power-on over the master row `cdm`: the answers go into `cds`, which is as
- * long as `cdm`, and the registers are left as the chain leaves them. Refusals 1, 2, 3, 4, 18, 5, 6, 7. */
-uint64_t biss_run(size_t slaves, const uint8_t *rights, size_t rights_length, const uint8_t *waits, size_t waits_length,
-                  uint8_t *registers, size_t registers_length, const uint8_t *cdm, size_t cdm_length, uint8_t *cds,
-                  size_t cds_length);
+/* Runs a chain of slaves from power-on over the master row `cdm`: `banks` says how many banks each has, `waits` its waiting number. The
+ * answers go into `cds`, which is as long as `cdm`, and the registers are left as the chain leaves them. Refusals 1, 19, 2, 3, 4, 18, 5,
+ * 6, 7. */
+uint64_t biss_run(size_t slaves, const uint8_t *banks, size_t banks_length, const uint8_t *rights, size_t rights_length,
+                  const uint8_t *waits, size_t waits_length, uint8_t *registers, size_t registers_length, const uint8_t *cdm,
+                  size_t cdm_length, uint8_t *cds, size_t cds_length);
 
 /* Lists the entries that two recorded rows show to a reader that opens at the column `opening`, into the first bytes of `out`:
  * BISS_ENTRY_BYTES an entry. The reader knows no waiting numbers: it waits while the master repeats S, and lists a `mute` (kind 9) where

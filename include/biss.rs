@@ -34,8 +34,8 @@ impl std::error::Error for Refusal {}
 fn words(number: u8) -> &'static str {
     match number {
         1 => "more than 16 slaves",
-        2 => "registers not 128 x slaves bytes",
-        3 => "rights not 128 x slaves bytes",
+        2 => "registers not 64 x (banks + 1) bytes a slave",
+        3 => "rights not 64 x (banks + 1) bytes a slave",
         4 => "a right above 3",
         5 => "a row of more than 4,096 columns",
         6 => "two rows of different length",
@@ -43,28 +43,36 @@ fn words(number: u8) -> &'static str {
         8 => "opening column greater than the length",
         9 => "the result needs more room than was lent",
         10 => "id over 7, address over 127, CMD over 3, count 0 or over 64, or address + count over 128",
-        12 => "list length no multiple of 8, or a kind outside 1 to 16",
+        12 => "list length no multiple of 9, or a kind outside 1 to 16",
         13 => "a wrong byte in the header line",
         14 => "digit not 0 or 1",
         15 => "tab missing",
         16 => "line feed missing",
         17 => "the text ends inside a line",
         18 => "waits not one byte per slave",
+        19 => "banks not one number of 1 to 8 per slave",
         _ => "a number that the table does not have",
     }
 }
 
 /// The bytes of an entry.
-pub const ENTRY_BYTES: usize = 8;
+pub const ENTRY_BYTES: usize = 9;
 
 /// The bytes of the header of a list's text, and the most that the line of an entry has.
-pub const LIST_HEADER_BYTES: usize = 36;
-pub const LIST_LINE_BYTES: usize = 33;
+pub const LIST_HEADER_BYTES: usize = 41;
+pub const LIST_LINE_BYTES: usize = 36;
 
-/// The master zeros that stand before every start bit: a reader that opens at an entry's `start - REST` lists that entry again.
+/// The master zeros that stand before every start bit: a reader that opens at an entry's `start - REST` lists that entry again, but for
+/// its bank.
 pub const REST: usize = 14;
 
-/// An entry of a list; `start` is the column of the start bit of its frame.
+/// The address of the bank register; the addresses below it show the bank that it names.
+pub const BANK_REGISTER: u8 = 64;
+
+/// The bank of an entry of an ID whose bank register was not yet written in the list.
+pub const NO_BANK_YET: u8 = 255;
+
+/// An entry of a list; `start` is the column of the start bit of its frame, `bank` that of an address below the bank register, else 0.
 #[derive(Clone, Copy, PartialEq, Eq, Debug)]
 pub struct Entry {
     pub kind: u8,
@@ -72,6 +80,7 @@ pub struct Entry {
     pub start: usize,
     pub id: u8,
     pub address: u8,
+    pub bank: u8,
     pub value: u8,
 }
 
@@ -84,7 +93,8 @@ pub fn entries(list: &[u8]) -> impl Iterator<Item = Entry> + '_ {
         start: column(entry[3], entry[4]),
         id: entry[5],
         address: entry[6],
-        value: entry[7],
+        bank: entry[7],
+        value: entry[8],
     })
 }
 
@@ -113,6 +123,8 @@ mod calls {
         pub fn biss_build_command(ids: u8, cmd: u8, out: *mut u8, out_length: usize) -> u64;
         pub fn biss_run(
             slaves: usize,
+            banks: *const u8,
+            banks_length: usize,
             rights: *const u8,
             rights_length: usize,
             waits: *const u8,
@@ -199,6 +211,7 @@ pub fn build_command(ids: u8, cmd: u8, out: &mut [u8]) -> Answer {
 
 pub fn run(
     slaves: usize,
+    banks: &[u8],
     rights: &[u8],
     waits: &[u8],
     registers: &mut [u8],
@@ -208,6 +221,8 @@ pub fn run(
     answer(unsafe {
         calls::biss_run(
             slaves,
+            banks.as_ptr(),
+            banks.len(),
             rights.as_ptr(),
             rights.len(),
             waits.as_ptr(),

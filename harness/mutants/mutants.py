@@ -21,7 +21,7 @@ EQUAL = [
     "chain: zeros last at W",
 ]
 
-# name, file, old text, new text
+# name, file, old text, new text; then further pairs of texts
 MUTANTS = [
     ("none", "rows.rs", "", ""),
     ("address 128 built, equal", "build.rs", "address > 127", "address > 128"),
@@ -52,8 +52,18 @@ MUTANTS = [
     ("build: one repeat too few", "build.rs", "pen.put_start(wait);\n        pen.put(0, 12);", "pen.put_start(wait.saturating_sub(1));\n        pen.put(0, 12 + u32::from(wait > 0));"),
     ("build: repeats at the first byte alone", "build.rs", "for _ in 0..count {\n        pen.put_start(wait);", "for n in 0..count {\n        pen.put_start(if n == 0 { wait } else { 0 });"),
     ("17 slaves", "chain.rs", "MOST_SLAVES: usize = 16", "MOST_SLAVES: usize = 17"),
-    ("3 before 2", "chain.rs", "if registers.len() != REGISTERS * slaves {\n        return Some(2);\n    }\n    if rights.len() != REGISTERS * slaves {\n        return Some(3);",
-     "if rights.len() != REGISTERS * slaves {\n        return Some(3);\n    }\n    if registers.len() != REGISTERS * slaves {\n        return Some(2);"),
+    ("3 before 2", "chain.rs", "if registers.len() != bytes {\n        return Some(2);\n    }\n    if rights.len() != bytes {\n        return Some(3);",
+     "if rights.len() != bytes {\n        return Some(3);\n    }\n    if registers.len() != bytes {\n        return Some(2);"),
+    ("2 and 3 by 128 bytes a slave", "chain.rs", "registers_of(number)).sum();", "128 + usize::from(number) * 0).sum();"),
+    ("2 and 3 by 64 bytes too few", "chain.rs", "registers_of(number)).sum();", "64 * usize::from(number)).sum();"),
+    ("19 after 2", "chain.rs", "    if banks.len() != slaves || banks", "    if registers.len() != banks.iter().map(|&number| registers_of(number)).sum::<usize>() {\n        return Some(2);\n    }\n    if banks.len() != slaves || banks"),
+    ("19 before 1", "chain.rs", "    if slaves > MOST_SLAVES {\n        return Some(1);", "    if slaves > MOST_SLAVES {\n        if banks.len() != slaves {\n            return Some(19);\n        }\n        return Some(1);"),
+    ("19 for too few numbers alone", "chain.rs", "banks.len() != slaves || banks", "banks.len() < slaves || banks"),
+    ("19 for too many numbers alone", "chain.rs", "    if banks.len() != slaves || banks", "    if banks.len() < slaves {\n        return None;\n    }\n    if banks.len() > slaves || banks"),
+    ("19: no bank passes", "chain.rs", "!(1..=MOST_BANKS)", "!(0..=MOST_BANKS)"),
+    ("19: nine banks pass", "frame.rs", "MOST_BANKS: u8 = 8", "MOST_BANKS: u8 = 9"),
+    ("19: eight banks do not pass", "frame.rs", "MOST_BANKS: u8 = 8", "MOST_BANKS: u8 = 7"),
+    ("19: the first number alone", "chain.rs", "banks.iter().any(|number|", "banks.iter().take(1).any(|number|"),
     ("right 4 passes", "chain.rs", "right > 3", "right > 4"),
     ("5 only of cdm", "chain.rs", "is_too_long(cdm) || is_too_long(cds)", "is_too_long(cdm)"),
     ("run judges cds", "chain.rs", "has_bad_byte(cdm).then_some(7)", "(has_bad_byte(cdm) || has_bad_byte(cds)).then_some(7)"),
@@ -63,9 +73,9 @@ MUTANTS = [
     ("numbers kept", "slave.rs", "self.number = None;\n            self.awaits", "self.awaits"),
     ("header check ignored", "slave.rs", "!check_is_right(bits, HEADER_BITS) || !is", "!is"),
     ("command as access", "slave.rs", "|| !is_register_access ", ""),
-    ("pair accepted", "slave.rs", "if r == w || !allows", "if !allows"),
+    ("pair accepted", "slave.rs", ".filter(|_| r != w);", ";"),
     ("refusal repeats W", "slave.rs", "return 1 - w;", "return w;"),
-    ("refusal not deaf", "slave.rs", "            self.awaits = Awaits::Rest;\n            return 1 - w;", "            let access = Access { writing, address, passed: 0 };\n            self.awaits = Awaits::ByteStart { access, waited: 0 };\n            return 1 - w;"),
+    ("refusal not deaf", "slave.rs", "            self.awaits = Awaits::Rest;\n            return 1 - w;", "            let place = self.shown(address).unwrap_or(0);\n            let access = Access { writing, address, place, passed: 0 };\n            self.awaits = Awaits::ByteStart { access, waited: 0 };\n            return 1 - w;"),
     ("S = 0 waits on", "slave.rs", "        if cdm == 0 {\n            self.awaits = Awaits::Rest;\n            return 0;", "        if cdm == 0 {\n            return 0;"),
     ("wait: at a write's first byte too", "slave.rs", "if access.writing && access.passed == 0 {", "if false {"),
     ("wait: never in a write", "slave.rs", "if access.writing && access.passed == 0 {", "if access.writing {"),
@@ -86,14 +96,39 @@ MUTANTS = [
     ("18 for too few alone", "chain.rs", "waits.len() != slaves", "waits.len() < slaves"),
     ("18 for too many alone", "chain.rs", "if waits.len() != slaves {", "if waits.len() < slaves {\n        return None;\n    }\n    if waits.len() > slaves {"),
     ("stored unchecked", "slave.rs", "        if right {\n            self.registers", "        {\n            self.registers"),
-    ("stored at once", "slave.rs", "            self.awaits = Awaits::Byte { access, done, bits };\n            return;", "            if done == 8 { self.registers[usize::from(access.address)] = bits as u8; }\n            self.awaits = Awaits::Byte { access, done, bits };\n            return;"),
-    ("P 0 after bad check", "slave.rs", "let goes_on = stored_or_read\n            && passed", "let goes_on = passed"),
+    ("stored at once", "slave.rs", "            self.awaits = Awaits::Byte { access, done, bits };\n            return;", "            if done == 8 { self.registers[access.place] = bits as u8; }\n            self.awaits = Awaits::Byte { access, done, bits };\n            return;"),
+    ("P 0 after bad check", "slave.rs", "|_| stored_or_read && passed", "|_| passed"),
     ("65 bytes", "slave.rs", "passed < MOST_BYTES", "passed <= MOST_BYTES"),
     ("63 bytes", "slave.rs", "passed < MOST_BYTES", "passed < MOST_BYTES - 1"),
-    ("P by own right", "slave.rs", "self.rights[usize::from(next)], access.writing", "self.rights[usize::from(access.address)], access.writing"),
-    ("P by any right", "slave.rs", "            && allows(self.rights[usize::from(next)], access.writing);", ";"),
-    ("P 1 not deaf", "slave.rs", "        if !goes_on {\n            self.awaits = Awaits::Rest;", "        if !goes_on {\n            self.awaits = if usize::from(next) < REGISTERS { Awaits::ByteStart { access: Access { address: next, passed, ..access }, waited: 0 } } else { Awaits::Rest };"),
-    ("stops at 63", "slave.rs", "&& usize::from(next) < REGISTERS", "&& usize::from(next) < REGISTERS && next != 64"),
+    ("P by own right", "slave.rs", "self.allowed(next, access.writing);", "self.shown(next).filter(|_| next < 128 && allows(self.rights[access.place], access.writing));"),
+    ("P by any right", "slave.rs", "self.allowed(next, access.writing);", "self.shown(next).filter(|_| next < 128);"),
+    ("P 1 not deaf", "slave.rs", "            self.awaits = Awaits::Rest;\n            return 1;\n", "            let goes_on = |place| Awaits::ByteStart { access: Access { address: next, place, passed, ..access }, waited: 0 };\n            self.awaits = self.shown(next).filter(|_| next < 128).map_or(Awaits::Rest, goes_on);\n            return 1;\n"),
+    ("stops at 63", "slave.rs", "self.allowed(next, access.writing);", "self.allowed(next, access.writing).filter(|_| next != 64);"),
+    ("bank: by the number of the slave next door", "chain.rs", "    let slave = |(&banks, &wait)| {", "    let mut next = banks.iter().skip(1).copied();\n    let slave = |(&banks, &wait)| {",
+     "Slave::at_power_on(banks, ", "Slave::at_power_on(next.next().unwrap_or(banks).min(banks), "),
+    ("bank: the near slave's registers first", "chain.rs", "banks.iter().zip(waits).map(slave).collect()", "banks.iter().rev().zip(waits).map(slave).collect()"),
+    ("bank: one that is not held is the first", "slave.rs", "return (chosen < self.banks).then_some(BANK_BYTES * chosen + usize::from(address));", "let chosen = if chosen < self.banks { chosen } else { 0 };\n            return Some(BANK_BYTES * chosen + usize::from(address));"),
+    ("bank: one that is not held is the last", "slave.rs", "return (chosen < self.banks).then_some(BANK_BYTES * chosen + usize::from(address));", "return Some(BANK_BYTES * chosen.min(self.banks - 1) + usize::from(address));"),
+    ("bank: by the lowest three bits", "slave.rs", "usize::from(self.registers[fixed]);", "usize::from(self.registers[fixed] & 7);"),
+    ("bank: the fixed registers as one bank more", "slave.rs", "(chosen < self.banks)", "(chosen <= self.banks)"),
+    ("bank: numbered from 1", "slave.rs", "usize::from(self.registers[fixed]);", "usize::from(self.registers[fixed]).wrapping_sub(1);"),
+    ("bank: the last one is not held", "slave.rs", "(chosen < self.banks)", "(chosen + 1 < self.banks || chosen == 0 && self.banks == 1)"),
+    ("bank: rights of the first for all", "slave.rs", "allows(self.rights[place], writing))", "allows(self.rights[if address < BANK_REGISTER { address.into() } else { place }], writing))"),
+    ("bank: always the first", "slave.rs", "usize::from(self.registers[fixed]);", "0;"),
+    ("bank: stored in the first", "slave.rs", "self.registers[access.place] = (bits >> 4) as u8;", "self.registers[if access.address < BANK_REGISTER { access.address.into() } else { access.place }] = (bits >> 4) as u8;"),
+    ("bank: read from the first", "slave.rs", "u16::from(self.registers[access.place]);", "u16::from(self.registers[if access.address < BANK_REGISTER { access.address.into() } else { access.place }]);"),
+    ("bank: fixed registers first", "slave.rs", "let fixed = BANK_BYTES * self.banks;", "let fixed = 0;", "BANK_BYTES * chosen + usize", "BANK_BYTES * (chosen + 1) + usize"),
+    ("bank: the register of one bank open", "slave.rs", "address == BANK_REGISTER && self.banks == 1", "false"),
+    ("bank: the register of one bank open in a sequence", "slave.rs", "self.allowed(next, access.writing);", "self.allowed(next, access.writing).or(Some(64).filter(|&place| next == 64 && self.banks == 1 && allows(self.rights[place], access.writing)));"),
+    ("bank: the register of one bank can be read", "slave.rs", "self.shown(address).filter(", "self.shown(address).or(Some(64).filter(|_| address == 64 && !writing)).filter("),
+    ("bank: the register of two banks shut", "slave.rs", "address == BANK_REGISTER && self.banks == 1", "address == BANK_REGISTER && self.banks < 3"),
+    ("bank: one bank always shown", "slave.rs", "usize::from(self.registers[fixed]);", "if self.banks == 1 { 0 } else { usize::from(self.registers[fixed]) };"),
+    ("bank: chosen a frame too late", "slave.rs", "    banks: usize,\n", "    banks: usize,\n    late: [u8; 2],\n", "Slave { banks,", "Slave { banks, late: [registers[BANK_BYTES * banks]; 2],",
+     "            self.number = None;\n", "            self.number = None;\n            self.late = [self.late[1], self.registers[BANK_BYTES * self.banks]];\n", "usize::from(self.registers[fixed]);", "usize::from(self.late[0]);"),
+    ("bank: chosen at power-on alone", "slave.rs", "    banks: usize,\n", "    banks: usize,\n    first: u8,\n", "Slave { banks,", "Slave { banks, first: registers[BANK_BYTES * banks],",
+     "usize::from(self.registers[fixed]);", "usize::from(self.first);"),
+    ("bank: chosen by a wrong check too", "slave.rs", "        if right {\n            self.registers", "        if right || access.address == BANK_REGISTER {\n            self.registers"),
+    ("bank: no choice in a sequence", "slave.rs", "        if right {\n            self.registers", "        if right && (access.address != BANK_REGISTER || access.passed == 0) {\n            self.registers"),
     ("slaves from the master's end", "chain.rs", "chain.iter_mut().fold", "chain.iter_mut().rev().fold"),
     ("at rest from power-on", "slave.rs", "number: None, awaits: Awaits::Rest", "number: None, awaits: Awaits::Start"),
     ("chain: zeros last in the header", "slave.rs", "if self.zeros.rest_after(cdm) {", "if self.zeros.rest_after(cdm) && !matches!(self.awaits, Awaits::Header { .. }) {"),
@@ -123,7 +158,25 @@ MUTANTS = [
     ("start: 0 at an end", "reader.rs", "event.at(column).start(self.start)", "event.at(column).start(if event.kind == Kind::End { 0 } else { self.start })"),
     ("start: low byte first", "entry.rs", "&two_bytes(self.start)", "&[two_bytes(self.start)[1], two_bytes(self.start)[0]]"),
     ("start: before the column", "entry.rs", "bytes[COLUMN].copy_from_slice(&two_bytes(self.column));\n        bytes[START].copy_from_slice(&two_bytes(self.start));", "bytes[COLUMN].copy_from_slice(&two_bytes(self.start));\n        bytes[START].copy_from_slice(&two_bytes(self.column));"),
-    ("reader at rest when let in", "reader.rs", "lock: 0, awaits: Awaits::Rest", "lock: 0, awaits: Awaits::Start"),
+    ("bank: named for the ID next door", "reader.rs", "return self.banks[usize::from(event.id)];", "return self.banks[usize::from(event.id) ^ 1];"),
+    ("bank: the last written of any ID", "reader.rs", "self.banks[usize::from(event.id)] = event.value;", "self.banks = [event.value; 8];"),
+    ("bank: 255 behind the first choice", "list.rs", "            entries.push(entry);", "            let is_choice = |e: &&Entry| e.id == entry.id && e.address == 64 && e.kind == crate::entry::Kind::Written;\n            let is_first = entries.iter().filter(is_choice).count() == 1;\n            entries.push(if is_first && entry.bank != 0 { entry.bank(255) } else { entry });"),
+    ("bank: 255 again behind the next entry", "reader.rs", "return self.banks[usize::from(event.id)];", "return std::mem::replace(&mut self.banks[usize::from(event.id)], NO_BANK_YET);"),
+    ("bank: 0 where none is written", "entry.rs", "NO_BANK_YET: u8 = 255", "NO_BANK_YET: u8 = 0"),
+    ("bank: named at 64", "entry.rs", "usize::from(address) < BANK_BYTES", "usize::from(address) <= BANK_BYTES"),
+    ("bank: not named at 63", "entry.rs", "usize::from(address) < BANK_BYTES", "usize::from(address) < BANK_BYTES - 1"),
+    ("bank: named for a command", "entry.rs", "FORMS[usize::from(kind) - 1].address && usize", "FORMS[usize::from(kind) - 1].id && usize"),
+    ("bank: not named where refused", "entry.rs", "FORMS[usize::from(kind) - 1].address && usize", "kind != 7 && FORMS[usize::from(kind) - 1].address && usize"),
+    ("bank: writebad names one", "reader.rs", "event.kind == Kind::Written && event", "matches!(event.kind, Kind::Written | Kind::WriteBad) && event"),
+    ("bank: echo names one", "reader.rs", "event.kind == Kind::Written && event", "matches!(event.kind, Kind::Written | Kind::Echo) && event"),
+    ("bank: read names one", "reader.rs", "event.kind == Kind::Written && event", "matches!(event.kind, Kind::Written | Kind::Read) && event"),
+    ("bank: refused names one", "reader.rs", "event.kind == Kind::Written && event", "matches!(event.kind, Kind::Written | Kind::Refused) && event"),
+    ("bank: named by a write at 65", "reader.rs", "event.address == BANK_REGISTER", "event.address == BANK_REGISTER + 1"),
+    ("bank: named by every fixed register", "reader.rs", "event.address == BANK_REGISTER", "event.address >= BANK_REGISTER"),
+    ("bank: named a frame too late", "list.rs", "            entries.push(entry);", "            let is_choice = |e: &&Entry| e.id == entry.id && e.address == 64 && e.kind == crate::entry::Kind::Written && e.column + 60 < entry.column;\n            let late = entries.iter().rev().find(is_choice).map_or(255, |e| e.value);\n            entries.push(if names_bank(entry.kind as u8, entry.address) { entry.bank(late) } else { entry });"),
+    ("bank: known before the opening", "list.rs", "    for column in opening..cdm.len() {\n        if let Some(entry)", "    for column in 0..opening {\n        reader.step(column, cdm[column], cds[column]);\n    }\n    for column in opening..cdm.len() {\n        if let Some(entry)"),
+    ("bank: behind the value", "entry.rs", "pub const BANK: usize = 7;\npub const VALUE: usize = 8;", "pub const BANK: usize = 8;\npub const VALUE: usize = 7;"),
+    ("reader at rest when let in", "reader.rs", "lock: 0, banks, awaits: Awaits::Rest", "lock: 0, banks, awaits: Awaits::Start"),
     ("end without a frame", "reader.rs", "frame_begun: false, start", "frame_begun: true, start"),
     ("end again and again", "reader.rs", "            self.frame_begun = false;\n", ""),
     ("deaf gives no end", "reader.rs", "        if self.zeros.rest_after(cdm) {\n            self.awaits = Awaits::Start;\n            let ends = self.frame_begun;",
@@ -186,6 +239,12 @@ MUTANTS = [
     ("rows: 9 one off", "text.rs", "out.len() < text.len()", "out.len() <= text.len()"),
     ("list: ragged tail left out", "list.rs", "!entries.remainder().is_empty() || ", ""),
     ("list: 12 by multiples of 6", "list.rs", "!entries.remainder().is_empty()", "!list.len().is_multiple_of(6)"),
+    ("list: 12 by multiples of 8", "list.rs", "!entries.remainder().is_empty()", "!list.len().is_multiple_of(8)"),
+    ("list: no bank in a line", "list.rs", "{address}\\t{bank}\\t", "{address}\\t"),
+    ("list: no bank in the header", "list.rs", "address\\tbank\\t", "address\\t"),
+    ("list: the bank before the address", "list.rs", "{address}\\t{bank}\\t", "{bank}\\t{address}\\t"),
+    ("list: a dash for bank 255", "list.rs", "field(names_bank(entry[KIND], entry[ADDRESS]), entry[BANK])", "field(names_bank(entry[KIND], entry[ADDRESS]) && entry[BANK] != 255, entry[BANK])"),
+    ("list: a bank at every address", "list.rs", "field(names_bank(entry[KIND], entry[ADDRESS]), entry[BANK])", "field(form.address, entry[BANK])"),
     ("list: 9 one off", "list.rs", "out.len() < text.len()", "out.len() <= text.len()"),
     ("list: dash for 0", "list.rs", "if is_named {", "if is_named && value != 0 {"),
     ("list: column low first", "list.rs", "column_in(&entry[COLUMN])", "column_in(&[entry[2], entry[1]])"),
@@ -201,11 +260,13 @@ MUTANTS = [
 ]
 
 
-def copy_model(file, old, new):
-    """Makes work/ the model's copy with one text of one file changed; says whether the text is there."""
+def copy_model(file, texts):
+    """Makes work/ the model's copy with texts of one file changed, each into the next; says whether they are there."""
     shutil.rmtree(WORK, ignore_errors=True)
     shutil.copytree(os.path.join(os.path.dirname(HERE), "model"), WORK)
-    return change("Cargo.toml", 'name = "model"', 'name = "mutant"') and change(os.path.join("src", file), old, new)
+    pairs = zip(texts[::2], texts[1::2])
+    is_changed = [change(os.path.join("src", file), old, new) for old, new in pairs]
+    return change("Cargo.toml", 'name = "model"', 'name = "mutant"') and all(is_changed)
 
 
 def change(file, old, new):
@@ -219,9 +280,9 @@ def run(command):
     return subprocess.run(command, cwd=HERE, stdout=subprocess.PIPE, stderr=subprocess.STDOUT, text=True)
 
 
-def compare(file, old, new):
+def compare(file, texts):
     """Whether the harness finds the mutant, and the line that says so; None where it can't be built, and why."""
-    if not copy_model(file, old, new):
+    if not copy_model(file, texts):
         return None, "its text is not there"
     built = run(["cargo", "build", "--quiet", "--release", "--locked", "--offline"])
     if built.returncode != 0:
@@ -234,11 +295,11 @@ def compare(file, old, new):
 def main():
     wanted = sys.argv[1:]
     wrong = []
-    for name, file, old, new in MUTANTS:
+    for name, file, *texts in MUTANTS:
         if wanted and name not in wanted:
             continue
         start = time.time()
-        found, line = compare(file, old, new)
+        found, line = compare(file, texts)
         if found is not (name not in EQUAL):
             wrong.append(name)
         said = {True: "found", False: "not found", None: "NOT BUILT"}[found]

@@ -71,6 +71,7 @@ pub fn bench_all() {
         "varied: {} different rows in turn, the least of {VARIED_ROUNDS} calls of each",
         rows::VARIED_ROWS
     );
+    println!("banks: such rows for slaves with {} banks; half the frames choose one", rows::BANKS);
     println!("waits: such rows, or built ones, for a slave that waits {}", rows::WAIT);
     println!(
         "{:<16}{:>8}  {:<6}{:>10}{:>10}{:>12}",

@@ -1,11 +1,12 @@
 //! What must hold of the model by itself.
 
 use crate::compare::Left;
-use crate::conditions::{has_its_start, is_given_up};
+use crate::conditions::{has_its_bank, has_its_start, is_given_up};
 use crate::generate::Random;
 use crate::job::{holding, Job};
 use model::account::rest_after;
-use model::entry::{Entry, ENTRY_BYTES};
+use model::entry::{Entry, Kind, ENTRY_BYTES};
+use model::frame::BANK_REGISTER;
 use model::list::list;
 
 pub fn must(holds: bool, what: &str) -> Result<(), String> {
@@ -45,8 +46,18 @@ pub fn gives_up(cdm: &[u8], cds: &[u8], list: &[u8]) -> Result<(), String> {
     }
 }
 
-/// A reader let in late gives exactly the entries after the first run of
-/// fourteen zeros that it sees.
+/// Every entry of a list's bytes names the bank that those before it tell.
+pub fn banks(list: &[u8]) -> Result<(), String> {
+    let ends = (0..list.len()).step_by(ENTRY_BYTES);
+    let entries = ends.map(|at| (&list[..at], &list[at..at + ENTRY_BYTES]));
+    match entries.into_iter().find(|(before, entry)| !has_its_bank(before, entry)) {
+        None => Ok(()),
+        Some((_, entry)) => Err(format!("the bank of {entry:?} is the last one written")),
+    }
+}
+
+/// A reader let in late gives exactly the entries after the first run of fourteen zeros
+/// that it sees, in all but the bank.
 pub fn late_opening(cdm: &[u8], cds: &[u8], random: &mut Random) -> Result<(), String> {
     let opening = random.between(0, cdm.len());
     let late = list(cdm, cds, opening);
@@ -57,5 +68,24 @@ pub fn late_opening(cdm: &[u8], cds: &[u8], random: &mut Random) -> Result<(), S
             whole.into_iter().filter(|entry| entry.column > rest).collect()
         }
     };
-    must(late == expected, &format!("late opening at {opening}"))
+    let bare =
+        |entries: &[Entry]| -> Vec<Entry> { entries.iter().map(|entry| entry.bank(0)).collect() };
+    must(bare(&late) == bare(&expected), &format!("late opening at {opening}"))?;
+    late_banks(&late, &expected).map_err(|wrong| format!("late opening at {opening}: {wrong}"))
+}
+
+/// "And there too after a `written` of that ID's bank register in its own list."
+fn late_banks(late: &[Entry], whole: &[Entry]) -> Result<(), String> {
+    let mut is_written = [false; 8];
+    for (late, whole) in late.iter().zip(whole) {
+        if late.bank != whole.bank {
+            let id = usize::from(late.id);
+            must(!is_written[id], &format!("the bank of {late:?} is not {}", whole.bank))?;
+            must(late.bank == 255, &format!("the bank of {late:?} is 255"))?;
+        }
+        if late.kind == Kind::Written && late.address == BANK_REGISTER {
+            is_written[usize::from(late.id)] = true;
+        }
+    }
+    Ok(())
 }

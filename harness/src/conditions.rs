@@ -1,5 +1,5 @@
 //! Conditions of refusals that several jobs have, those of a text, those of an entry's
-//! start and those of a `mute`.
+//! start and bank and those of a `mute`.
 
 use model::Fault;
 
@@ -50,6 +50,18 @@ pub fn has_its_start(cdm: &[u8], entry: &[u8]) -> bool {
         && cdm[start] == 1
         && !(start + 1..column - 13).any(rests)
         && rests(column - 13) == is_end
+}
+
+/// The bank of an entry, given as its bytes, found by going back from it through the
+/// list before it.
+pub fn has_its_bank(before: &[u8], entry: &[u8]) -> bool {
+    let (kind, id, address, bank) = (entry[0], entry[5], entry[6], entry[7]);
+    if address > 63 || !matches!(kind, 5..=14 | 16) {
+        return bank == 0;
+    }
+    let chooses = |earlier: &&[u8]| earlier[0] == 11 && earlier[5] == id && earlier[6] == 64;
+    let chosen = before.rchunks(9).find(chooses);
+    bank == chosen.map_or(255, |earlier| earlier[8])
 }
 
 /// An entry, given as its bytes, is no `mute`, or the master sent 0 in its column and

@@ -1,6 +1,7 @@
-//! How often each entry kind, each opening again at a frame, each refusal, each
-//! fault of a text, each phase, each wait and each way to make a case came up.
+//! How often each entry kind, each opening again at a frame, each refusal, each fault of
+//! a text, each phase, each wait, each bank and each way to make a case came up.
 
+mod banks;
 mod table;
 mod waits;
 
@@ -11,6 +12,7 @@ use crate::generate::recordings::{Answers, ANSWERS};
 use crate::generate::texts::{each, Faults, IN_COLUMN, IN_HEADER};
 use crate::job::{holding, Job};
 use crate::jobs::JOBS;
+use banks::{Late, Named, Situation};
 use model::entry::{ADDRESS, ENTRY_BYTES, FORMS, KIND, VALUE};
 use model::phase::{Met, Phase, PHASES};
 use model::rows::MOST_COLUMNS;
@@ -73,6 +75,22 @@ pub enum Count {
     GivenUp(bool, Option<u8>),
     /// What became of bytes whose master repeats S so: entries of a kind.
     Repeated(Repeats, u8),
+    /// Neighbours of a chain by their banks, the far one first.
+    Neighbours(u8, u8),
+    /// Slaves with so many banks that were accessed at 0 to 63 with the bank register as
+    /// it was lent; whether it names one of them.
+    StartsAt(u8, bool),
+    /// Bytes of honest rows in a bank: of a write or not, the banks of their slave, its
+    /// number.
+    InBank(bool, u8, u8),
+    /// What accesses of honest rows met, writes or not.
+    AtBanks(Situation, bool),
+    /// What entries of a kind have for a bank, in lists that were read.
+    Named(u8, Named),
+    /// Entries that name a bank, the last of whose bank register is of such a kind.
+    PassedOver(u8),
+    /// Banks of lists that were opened late.
+    Late(Late),
     /// Faults of texts: where, the number, and the byte in the line.
     Fault(Part, u8, usize),
     Made(&'static str),
@@ -114,6 +132,15 @@ impl fmt::Display for Count {
             Count::Confirmed(writing, wait) => write!(to, "{} confirmed", of_byte(*writing, *wait)),
             Count::GivenUp(writing, wait) => write!(to, "{} given up", of_byte(*writing, *wait)),
             Count::Repeated(repeats, kind) => write!(to, "{repeats:?} {}", kind_name(*kind)),
+            Count::Neighbours(far, near) => write!(to, "{far} banks next to {near}"),
+            Count::StartsAt(banks, held) => write!(to, "{banks} banks, starts held {held}"),
+            Count::InBank(writing, banks, bank) => {
+                write!(to, "bank {bank} of {banks}, write {writing}")
+            }
+            Count::AtBanks(met, writing) => write!(to, "{met:?}, write {writing}"),
+            Count::Named(kind, named) => write!(to, "bank of {} {named:?}", kind_name(*kind)),
+            Count::PassedOver(kind) => write!(to, "passed over {}", kind_name(*kind)),
+            Count::Late(bank) => write!(to, "late bank {bank:?}"),
             Count::Fault(part, number, byte) => write!(to, "{part:?} {number} at byte {byte}"),
             Count::Made(job) => write!(to, "{job} made"),
             Count::Marked(job, mark) => write!(to, "{job} {mark}"),
@@ -238,6 +265,7 @@ fn expected() -> Vec<Count> {
     all.extend(PHASES.map(Count::SlaveAt));
     all.extend(PHASES.map(Count::ReaderAt));
     all.extend(waits::expected());
+    all.extend(banks::expected());
     all.extend(PARTS.into_iter().flat_map(expected_of_texts));
     all.extend(JOBS.iter().flat_map(expected_of_job));
     all

@@ -50,7 +50,8 @@ table! {
         => build_write::BuildWrite, 3;
     build_command(ids: u8, cmd: u8, out: &mut [u8]) => build_command::BuildCommand, 2;
     run(
-        slaves: usize, rights: &[u8], waits: &[u8], registers: &mut [u8], cdm: &[u8], cds: &mut [u8]
+        slaves: usize, banks: &[u8], rights: &[u8], waits: &[u8], registers: &mut [u8],
+        cdm: &[u8], cds: &mut [u8]
     ) => run::Run, 31;
     read(cdm: &[u8], cds: &[u8], opening: usize, out: &mut [u8]) => read::Read, 31;
     text_to_rows(text: &[u8], cdm: &mut [u8], cds: &mut [u8]) => text_to_rows::TextToRows, 12;

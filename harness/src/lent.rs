@@ -58,6 +58,7 @@ pub enum Use {
     Text,
     List,
     Rights,
+    Banks,
     Bytes,
     /// A result goes into it.
     Room,
@@ -71,7 +72,7 @@ impl Use {
             Use::Row => Some(1),
             Use::Text => Some(4),
             Use::List => Some(ENTRY_BYTES),
-            Use::Rights | Use::Bytes | Use::Room => None,
+            Use::Rights | Use::Banks | Use::Bytes | Use::Room => None,
         }
     }
 
@@ -79,6 +80,7 @@ impl Use {
     pub fn plain(self) -> u8 {
         match self {
             Use::Rights => 3,
+            Use::Banks => 1,
             Use::Text => b'0',
             Use::Row | Use::List | Use::Bytes | Use::Room => 0,
         }

@@ -1,4 +1,4 @@
-//! The indexing program: the files of the crates and of the example that hold some of
+//! The indexing program: the files of the crates and of the examples that hold some of
 //! its inputs, and the linked program on all of them and on texts from seeds. And what
 //! the program `card` prints.
 
@@ -6,7 +6,7 @@ mod card;
 mod inputs;
 
 use crate::generate::Random;
-use inputs::{faulty_inputs, held, named, slow_memory, Input};
+use inputs::{calibrations, faulty_inputs, held, named, slow_memory, Input};
 use std::fs;
 use std::io::Write;
 use std::path::{Path, PathBuf};
@@ -66,12 +66,15 @@ impl Input {
     }
 }
 
-/// The files of the indexing program's crates, what the card prints, and the recording
+/// The files of the indexing program's crates, what the card prints, and the recordings
 /// among the examples.
 fn files(root: &Path) -> Vec<(PathBuf, Vec<u8>)> {
     let card = (root.join("crates/card/stdout"), card::printed());
-    let recording = (root.join("examples/slow_memory.rows"), slow_memory().stdin);
-    held().iter().flat_map(|input| input.files(root)).chain([card, recording]).collect()
+    let slow_memory = (root.join("examples/slow_memory.rows"), slow_memory().stdin);
+    let [calibration, _] = calibrations();
+    let calibration = (root.join("examples/calibration.rows"), calibration.stdin);
+    let others = [card, slow_memory, calibration];
+    held().iter().flat_map(|input| input.files(root)).chain(others).collect()
 }
 
 /// Writes these files.
@@ -94,7 +97,7 @@ pub fn agree(root: &Path) -> bool {
         files.iter().filter(|(path, bytes)| fs::read(path).unwrap_or_default() != *bytes).collect();
     wrong.iter().for_each(|(path, _)| println!("PROGRAM {} is not the model's", path.display()));
     let (all, wrong_ones) = (files.len(), wrong.len());
-    println!("program crates and a recording: {all} files, {wrong_ones} not as the model has them");
+    println!("program crates and recordings: {all} files, {wrong_ones} not as the model has them");
     card::page_agrees(root) && wrong.is_empty()
 }
 

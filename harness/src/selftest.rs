@@ -1,6 +1,7 @@
 //! The bench card of paper 01, tried on the model, starts, judged by the conditions,
-//! and slow memories.
+//! slow memories and banks.
 
+mod banks;
 mod waits;
 mod wrapper;
 
@@ -46,6 +47,7 @@ pub fn selftest() -> (usize, Vec<String>) {
     long_texts(&mut card);
     lists(&mut card);
     waits::tried(&mut card);
+    banks::tried(&mut card);
     wrapper::tried(&mut card);
     (card.tried, card.failed)
 }
@@ -77,10 +79,11 @@ fn built_read(id: u8, address: u8, count: usize) -> Vec<u8> {
     row
 }
 
-/// Answers of a chain with all rights 3 and the given registers.
+/// Answers of a chain of one bank a slave, with all rights 3 and the given registers.
 fn answers(slaves: usize, registers: &mut [u8], cdm: &[u8]) -> Vec<u8> {
     let mut cds = vec![0; cdm.len()];
-    let outcome = run(slaves, &vec![3; 128 * slaves], &vec![0; slaves], registers, cdm, &mut cds);
+    let (banks, rights, waits) = (vec![1; slaves], vec![3; 128 * slaves], vec![0; slaves]);
+    let outcome = run(slaves, &banks, &rights, &waits, registers, cdm, &mut cds);
     assert_eq!(outcome, Made(cdm.len()));
     cds
 }
@@ -113,9 +116,9 @@ fn worked_run(card: &mut Card) {
     card.same("columns of the built read", cdm.len(), 46);
     cdm.push(0);
     let cds = answers(1, &mut registers, &cdm);
-    let header = "event\tcolumn\tstart\tid\taddress\tvalue\n";
-    let without_end = format!("{header}lock\t23\t14\t-\t-\t1\nread\t44\t14\t0\t68\t90\n");
-    let whole = format!("{without_end}end\t46\t14\t-\t-\t-\n");
+    let header = "event\tcolumn\tstart\tid\taddress\tbank\tvalue\n";
+    let without_end = format!("{header}lock\t23\t14\t-\t-\t-\t1\nread\t44\t14\t0\t68\t-\t90\n");
+    let whole = format!("{without_end}end\t46\t14\t-\t-\t-\t-\n");
     card.same("the worked run", printed(&cdm, &cds), whole);
     card.same("last column taken off", printed(&cdm[..46], &cds[..46]), without_end);
     let late = answers(1, &mut registers, &cdm[1..]);
@@ -140,7 +143,7 @@ fn starts(card: &mut Card) {
         entries.iter().map(|entry| (entry.column, entry.start)).collect()
     };
     card.same("starts of two frames", starts(list(&cdm, &cds, 0)), both.clone());
-    let account = account(1, &[3; 128], &[0], &[0; 128], &cdm);
+    let account = account(&[1], &[3; 128], &[0], &[0; 128], &cdm);
     card.same("starts in the account", starts(account.entries), both);
     card.same("let in within a frame", starts(list(&cdm, &cds, 30)), second.to_vec());
     card.same("opened at the frame", starts(list(&cdm, &cds, 60 - 14)), second.to_vec());
@@ -171,10 +174,12 @@ fn other_runs(card: &mut Card) {
     let cds = answers(1, &mut [0; 128], &cdm);
     card.same("P at address 126", cds[45], 0);
     let cdm = built_read(0, 0, 64);
-    let cds = answers(1, &mut [7; 128], &cdm);
+    let mut registers = [7; 128];
+    registers[64] = 0;
+    let account = account(&[1], &[3; 128], &[0], &registers, &cdm);
+    let cds = answers(1, &mut registers, &cdm);
     card.same("P of the 63rd byte", cds[32 + 14 * 62 + 13], 0);
     card.same("P of the 64th byte", cds[32 + 14 * 63 + 13], 1);
-    let account = account(1, &[3; 128], &[0], &[7; 128], &cdm);
     card.same("account of 64 bytes", account.entries, list(&cdm, &cds, 0));
 }
 
@@ -227,7 +232,7 @@ fn easy_answers(card: &mut Card) {
     let wanted = vec![(Kind::Lock, 23), (Kind::Absent, 31)];
     card.same("unanswered write, nobody there", kinds(&cdm, &nobody), wanted);
     let mut cds = [0; 46];
-    run(1, &[1; 128], &[0], &mut [0; 128], &cdm, &mut cds);
+    run(1, &[1], &[1; 128], &[0], &mut [0; 128], &cdm, &mut cds);
     let wanted = vec![(Kind::Lock, 23), (Kind::Refused, 31)];
     card.same("refused write", kinds(&cdm, &cds), wanted);
 }
@@ -290,21 +295,26 @@ fn long_texts(card: &mut Card) {
 
 fn lists(card: &mut Card) {
     let mut text = [9; 80];
-    let entry = [10, 2, 16, 1, 242, 0, 68, 90];
-    card.same("a printed list", list_to_text(&entry, &mut text), Made(57));
-    let wanted = b"event\tcolumn\tstart\tid\taddress\tvalue\nread\t528\t498\t0\t68\t90\n";
-    card.same("its bytes", &text[..58], &[&wanted[..], &[9]].concat()[..]);
-    card.same("an empty list", list_to_text(&[], &mut text), Made(36));
-    card.same("one byte short", list_to_text(&entry, &mut text[..56]), Refused(9));
-    for length in (1..24).filter(|length| length % 8 != 0) {
+    let entry = [10, 2, 16, 1, 242, 0, 68, 0, 90];
+    card.same("a printed list", list_to_text(&entry, &mut text), Made(64));
+    let wanted = b"event\tcolumn\tstart\tid\taddress\tbank\tvalue\nread\t528\t498\t0\t68\t-\t90\n";
+    card.same("its bytes", &text[..65], &[&wanted[..], &[9]].concat()[..]);
+    card.same("an empty list", list_to_text(&[], &mut text), Made(41));
+    card.same("one byte short", list_to_text(&entry, &mut text[..63]), Refused(9));
+    for length in (1..27).filter(|length| length % 9 != 0) {
         let ragged = [entry; 3].concat()[..length].to_vec();
         card.same(&format!("{length} bytes"), list_to_text(&ragged, &mut text), Refused(12));
     }
-    card.same("kind 0", list_to_text(&[0; 8], &mut text), Refused(12));
-    card.same("kind 17", list_to_text(&[17; 8], &mut text), Refused(12));
-    card.same("12 before 9", list_to_text(&[17; 8], &mut []), Refused(12));
-    let longest = [13, 255, 255, 255, 255, 255, 255, 255];
-    card.same("the longest line", list_to_text(&longest, &mut text), Made(36 + 33));
+    card.same("kind 0", list_to_text(&[0; 9], &mut text), Refused(12));
+    card.same("kind 17", list_to_text(&[17; 9], &mut text), Refused(12));
+    card.same("12 before 9", list_to_text(&[17; 9], &mut []), Refused(12));
+    let longest = [13, 255, 255, 255, 255, 255, 63, 255, 255];
+    card.same("the longest line", list_to_text(&longest, &mut text), Made(41 + 36));
+    let last = &text[41 + 36 - 21..41 + 36];
+    card.same("its end", last, b"65535\t255\t63\t255\t255\n");
+    let longest = [13, 255, 255, 255, 255, 255, 255, 255, 255];
+    card.same("no bank at 255", list_to_text(&longest, &mut text), Made(41 + 35));
+    card.same("its end", &text[41 + 35 - 15..41 + 35], b"\t255\t255\t-\t255\n");
 }
 
 #[cfg(test)]

@@ -1,15 +1,16 @@
 //! The chain's account: "worked out from the slaves and the master row, not
 //! the answers". It cuts the row at its rests and takes each frame as a whole,
-//! so that it shares no stepping with slave.rs and reader.rs.
+//! so that it shares no stepping with slave.rs and reader.rs. The banks it names in its
+//! finished list, ID by ID.
 
 use super::check::{check_bits, BYTE_BITS, HEADER_BITS};
-use super::entry::{Entry, Kind};
-use super::frame::{FIRST_LOCK, REGISTERS};
+use super::entry::{names_bank, Entry, Kind, NO_BANK_YET};
+use super::frame::{BANK_BYTES, BANK_REGISTER, FIRST_LOCK};
 use super::rows::ZEROS_TO_REST;
 use super::slave::allows;
 
 pub struct Account<'a> {
-    slaves: usize,
+    banks: &'a [u8],
     rights: &'a [u8],
     waits: &'a [u8],
     pub registers: Vec<u8>,
@@ -18,14 +19,14 @@ pub struct Account<'a> {
 
 /// The account of a whole row; the arguments must be ones `run` does not refuse.
 pub fn account<'a>(
-    slaves: usize,
+    banks: &'a [u8],
     rights: &'a [u8],
     waits: &'a [u8],
     registers: &[u8],
     cdm: &[u8],
 ) -> Account<'a> {
     let (registers, entries) = (registers.to_vec(), Vec::new());
-    let mut account = Account { slaves, rights, waits, registers, entries };
+    let mut account = Account { banks, rights, waits, registers, entries };
     let mut rest = rest_after(cdm, 0);
     while let Some(start) = rest.and_then(|rest| first_one(cdm, rest)) {
         rest = rest_after(cdm, start);
@@ -35,6 +36,7 @@ pub fn account<'a>(
             account.note(start, column - start, Entry::of(Kind::End));
         }
     }
+    (0..8).for_each(|id| account.name_banks(id));
     account
 }
 
@@ -71,7 +73,7 @@ impl Account<'_> {
         if frame.len() <= idl8 {
             return;
         }
-        let locks = self.slaves.min(9) as u8;
+        let locks = self.banks.len().min(9) as u8;
         self.note(start, idl8, Entry::of(Kind::Lock).value(locks));
         if frame.len() <= 15 {
             return;
@@ -94,7 +96,7 @@ impl Account<'_> {
         let (r, w) = (frame[16], frame[17]);
         let kind = if r == w {
             Kind::Pair
-        } else if usize::from(id) >= self.slaves {
+        } else if usize::from(id) >= self.banks.len() {
             Kind::Absent
         } else if !self.is_allowed(id, address, w == 1) {
             Kind::Refused
@@ -122,8 +124,7 @@ impl Account<'_> {
             }
             let byte = &frame[after..];
             let kind = if writing { self.write(id, address, byte) } else { Kind::Read };
-            let value =
-                if writing { number(&byte[1..9]) as u8 } else { self.register(id, address) };
+            let value = if writing { number(&byte[1..9]) as u8 } else { self.held(id, address) };
             self.note(start, after + 12, Entry::of(kind).place(id, address).value(value));
             if byte.len() <= 13 {
                 return;
@@ -142,20 +143,51 @@ impl Account<'_> {
         if number(&byte[9..13]) != u16::from(check_bits(data, BYTE_BITS)) {
             return Kind::WriteBad;
         }
-        self.registers[place(id, address)] = data as u8;
+        let place = self.place(id, address).expect("a write goes on where it is allowed");
+        self.registers[place] = data as u8;
         Kind::Written
     }
 
-    fn register(&self, id: u8, address: u8) -> u8 {
-        self.registers[place(id, address)]
+    fn held(&self, id: u8, address: u8) -> u8 {
+        let place = self.place(id, address).expect("a read goes on where it is allowed");
+        self.registers[place]
     }
 
     fn is_allowed(&self, id: u8, address: u8, writing: bool) -> bool {
-        allows(self.rights[place(id, address)], writing)
+        self.place(id, address).is_some_and(|place| allows(self.rights[place], writing))
+    }
+
+    fn place(&self, id: u8, address: u8) -> Option<usize> {
+        place(self.banks, &self.registers, id, address)
+    }
+
+    /// Gives the entries of an ID their bank: "the value of that ID's last earlier
+    /// `written` at the bank register, 255 if none".
+    fn name_banks(&mut self, id: u8) {
+        let mut bank = NO_BANK_YET;
+        for entry in self.entries.iter_mut().filter(|entry| entry.id == id) {
+            if names_bank(entry.kind as u8, entry.address) {
+                entry.bank = bank;
+            }
+            if entry.kind == Kind::Written && entry.address == BANK_REGISTER {
+                bank = entry.value;
+            }
+        }
     }
 }
 
-/// "The far slave is ID 0", and "chain order in the buffers is far slave first".
-pub fn place(id: u8, address: u8) -> usize {
-    REGISTERS * usize::from(id) + usize::from(address)
+/// Where in the buffers the register stands that an ID's address shows, if it shows one:
+/// "the far slave is ID 0", and "chain order in the buffers is far slave first". They
+/// are blocks of 64 bytes: of each slave its banks and the fixed registers.
+pub fn place(banks: &[u8], registers: &[u8], id: u8, address: u8) -> Option<usize> {
+    let (farther, own) = (&banks[..usize::from(id)], usize::from(banks[usize::from(id)]));
+    let first: usize = farther.iter().map(|&banks| usize::from(banks) + 1).sum();
+    let (fixed, within) = (first + own, usize::from(address) % BANK_BYTES);
+    let block = if usize::from(address) >= BANK_BYTES {
+        Some(fixed).filter(|_| own > 1 || within > 0)
+    } else {
+        let chosen = usize::from(registers[BANK_BYTES * fixed]);
+        (first..fixed).nth(chosen)
+    };
+    block.map(|block| BANK_BYTES * block + within)
 }

@@ -1,6 +1,6 @@
 //! The chain: its slaves in every column, from the far end to the master.
 
-use super::frame::REGISTERS;
+use super::frame::{registers_of, MOST_BANKS};
 use super::phase::Met;
 use super::rows::{has_bad_byte, is_too_long};
 use super::slave::Slave;
@@ -10,6 +10,7 @@ const MOST_SLAVES: usize = 16;
 
 fn refusal(
     slaves: usize,
+    banks: &[u8],
     rights: &[u8],
     waits: &[u8],
     registers: &[u8],
@@ -19,10 +20,14 @@ fn refusal(
     if slaves > MOST_SLAVES {
         return Some(1);
     }
-    if registers.len() != REGISTERS * slaves {
+    if banks.len() != slaves || banks.iter().any(|number| !(1..=MOST_BANKS).contains(number)) {
+        return Some(19);
+    }
+    let bytes: usize = banks.iter().map(|&number| registers_of(number)).sum();
+    if registers.len() != bytes {
         return Some(2);
     }
-    if rights.len() != REGISTERS * slaves {
+    if rights.len() != bytes {
         return Some(3);
     }
     if rights.iter().any(|&right| right > 3) {
@@ -41,16 +46,28 @@ fn refusal(
     has_bad_byte(cdm).then_some(7)
 }
 
-/// A chain as it is at power-on.
-fn power_on<'a>(rights: &'a [u8], waits: &[u8], registers: &'a mut [u8]) -> Vec<Slave<'a>> {
-    let each = rights.chunks(REGISTERS).zip(waits).zip(registers.chunks_mut(REGISTERS));
-    let slave = |((rights, &wait), registers)| Slave::at_power_on(rights, wait, registers);
-    each.map(slave).collect()
+/// A chain as it is at power-on: of the registers and rights that are left every slave
+/// takes its own.
+fn power_on<'a>(
+    banks: &[u8],
+    mut rights: &'a [u8],
+    waits: &[u8],
+    mut registers: &'a mut [u8],
+) -> Vec<Slave<'a>> {
+    let slave = |(&banks, &wait)| {
+        let (its_rights, left) = rights.split_at(registers_of(banks));
+        rights = left;
+        let (its_registers, left) =
+            std::mem::take(&mut registers).split_at_mut(registers_of(banks));
+        registers = left;
+        Slave::at_power_on(banks, its_rights, wait, its_registers)
+    };
+    banks.iter().zip(waits).map(slave).collect()
 }
 
 /// The phases that the slaves of a chain meet over a master row.
-pub fn phases(rights: &[u8], waits: &[u8], registers: &mut [u8], cdm: &[u8]) -> Met {
-    let mut chain = power_on(rights, waits, registers);
+pub fn phases(banks: &[u8], rights: &[u8], waits: &[u8], registers: &mut [u8], cdm: &[u8]) -> Met {
+    let mut chain = power_on(banks, rights, waits, registers);
     let mut met = Met::none();
     for &bit in cdm {
         chain.iter().for_each(|slave| met.meet(slave.phase()));
@@ -62,16 +79,17 @@ pub fn phases(rights: &[u8], waits: &[u8], registers: &mut [u8], cdm: &[u8]) -> 
 /// Runs the chain from power-on over a master row.
 pub fn run(
     slaves: usize,
+    banks: &[u8],
     rights: &[u8],
     waits: &[u8],
     registers: &mut [u8],
     cdm: &[u8],
     cds: &mut [u8],
 ) -> Outcome {
-    if let Some(number) = refusal(slaves, rights, waits, registers, cdm, cds) {
+    if let Some(number) = refusal(slaves, banks, rights, waits, registers, cdm, cds) {
         return Refused(number);
     }
-    let mut chain = power_on(rights, waits, registers);
+    let mut chain = power_on(banks, rights, waits, registers);
     for (&bit, answer) in cdm.iter().zip(cds.iter_mut()) {
         *answer = chain.iter_mut().fold(0, |seen, slave| slave.step(bit, seen));
     }

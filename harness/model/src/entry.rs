@@ -1,9 +1,10 @@
-//! Eight bytes: "kind, column (two bytes, high first)", "two bytes for S placed
-//! after the column", "id, address, value".
+//! Nine bytes: "kind, column (two bytes, high first)", "two bytes for S placed
+//! after the column", "id, address", "`bank` after the address", "value".
 
+use super::frame::BANK_BYTES;
 use std::ops::Range;
 
-pub const ENTRY_BYTES: usize = 8;
+pub const ENTRY_BYTES: usize = 9;
 
 /// Where a field stands among them.
 pub const KIND: usize = 0;
@@ -11,7 +12,11 @@ pub const COLUMN: Range<usize> = 1..3;
 pub const START: Range<usize> = 3..5;
 pub const ID: usize = 5;
 pub const ADDRESS: usize = 6;
-pub const VALUE: usize = 7;
+pub const BANK: usize = 7;
+pub const VALUE: usize = 8;
+
+/// The bank of an ID whose bank register no earlier entry writes.
+pub const NO_BANK_YET: u8 = 255;
 
 #[derive(Clone, Copy, PartialEq, Eq, Debug)]
 pub enum Kind {
@@ -42,12 +47,13 @@ pub struct Entry {
     pub start: usize,
     pub id: u8,
     pub address: u8,
+    pub bank: u8,
     pub value: u8,
 }
 
 impl Entry {
     pub fn of(kind: Kind) -> Entry {
-        Entry { kind, column: 0, start: 0, id: 0, address: 0, value: 0 }
+        Entry { kind, column: 0, start: 0, id: 0, address: 0, bank: 0, value: 0 }
     }
 
     pub fn at(self, column: usize) -> Entry {
@@ -62,6 +68,10 @@ impl Entry {
         Entry { id, address, ..self }
     }
 
+    pub fn bank(self, bank: u8) -> Entry {
+        Entry { bank, ..self }
+    }
+
     pub fn value(self, value: u8) -> Entry {
         Entry { value, ..self }
     }
@@ -73,6 +83,7 @@ impl Entry {
         bytes[START].copy_from_slice(&two_bytes(self.start));
         bytes[ID] = self.id;
         bytes[ADDRESS] = self.address;
+        bytes[BANK] = self.bank;
         bytes[VALUE] = self.value;
         bytes
     }
@@ -86,6 +97,11 @@ fn two_bytes(column: usize) -> [u8; 2] {
 /// The column that such bytes hold.
 pub fn column_in(bytes: &[u8]) -> usize {
     bytes.iter().fold(0, |high, &low| high << 8 | usize::from(low))
+}
+
+/// Whether an entry of a kind, 1 to 16, names a bank: "named at addresses 0 to 63".
+pub fn names_bank(kind: u8, address: u8) -> bool {
+    FORMS[usize::from(kind) - 1].address && usize::from(address) < BANK_BYTES
 }
 
 /// How a kind is printed: its name and which fields it names.

@@ -12,5 +12,20 @@ pub const BYTE_AND_CHECK: u8 = 12;
 /// The most bytes of one access.
 pub const MOST_BYTES: u8 = 64;
 
-/// "A slave has 128 registers."
-pub const REGISTERS: usize = 128;
+/// The addresses of a slave: "addresses 0 to 63 show the chosen bank".
+pub const ADDRESSES: usize = 128;
+
+/// "Banks of 64 bytes"; the fixed registers are as many.
+pub const BANK_BYTES: usize = 64;
+
+/// "A table gives each slave 1 to 8 banks."
+pub const MOST_BANKS: u8 = 8;
+
+/// The address of the bank register, the first fixed one (000: BSEL).
+pub const BANK_REGISTER: u8 = 64;
+
+/// The registers of a slave with so many banks, and its rights: "64 x (banks + 1)
+/// bytes a slave".
+pub fn registers_of(banks: u8) -> usize {
+    BANK_BYTES * (usize::from(banks) + 1)
+}

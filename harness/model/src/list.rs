@@ -1,16 +1,19 @@
 //! Lists: the reading of two rows, and the printing of a list.
 
-use super::entry::{column_in, Entry, ADDRESS, COLUMN, ENTRY_BYTES, FORMS, ID, KIND, START, VALUE};
+use super::entry::{
+    column_in, names_bank, Entry, ADDRESS, BANK, COLUMN, ENTRY_BYTES, FORMS, ID, KIND, START, VALUE,
+};
 use super::phase::Met;
 use super::reader::Reader;
 use super::rows::refusal_of_rows;
 use super::Outcome::{self, Made, Refused};
 
-const LIST_HEADER: &str = "event\tcolumn\tstart\tid\taddress\tvalue\n";
+const LIST_HEADER: &str = "event\tcolumn\tstart\tid\taddress\tbank\tvalue\n";
 
 /// A kind of at most eight letters, two numbers of at most five digits and three of
-/// at most three, five tabs and a line feed.
-const LONGEST_LINE: usize = 8 + 2 * 5 + 3 * 3 + 5 + 1;
+/// at most three, six tabs and a line feed; and an address of two digits, for one of
+/// three has no bank.
+const LONGEST_LINE: usize = 8 + 2 * 5 + 3 * 3 + 2 + 6 + 1;
 
 /// The most bytes that the text of a list of so many entries can have.
 pub fn printed_at_most(entries: usize) -> usize {
@@ -73,8 +76,9 @@ fn line(entry: &[u8]) -> String {
     let start = column_in(&entry[START]);
     let id = field(form.id, entry[ID]);
     let address = field(form.address, entry[ADDRESS]);
+    let bank = field(names_bank(entry[KIND], entry[ADDRESS]), entry[BANK]);
     let value = field(form.value, entry[VALUE]);
-    format!("{}\t{column}\t{start}\t{id}\t{address}\t{value}\n", form.name)
+    format!("{}\t{column}\t{start}\t{id}\t{address}\t{bank}\t{value}\n", form.name)
 }
 
 /// The job that prints a list.

@@ -1,8 +1,8 @@
 //! The reader: two recorded bits a column, at most one entry.
 
 use super::check::{check_is_right, BYTE_BITS, HEADER_BITS};
-use super::entry::{Entry, Kind};
-use super::frame::{BYTE_AND_CHECK, FIRST_LOCK, LAST_HEADER, MOST_BYTES};
+use super::entry::{names_bank, Entry, Kind, NO_BANK_YET};
+use super::frame::{BANK_REGISTER, BYTE_AND_CHECK, FIRST_LOCK, LAST_HEADER, MOST_BYTES};
 use super::phase::{of_access, of_byte_start, of_header, Phase};
 use super::rows::Zeros;
 
@@ -60,20 +60,35 @@ pub struct Reader {
     start: usize,
     /// The lock value of the present frame.
     lock: u8,
+    /// Of each ID what was last written to its bank register.
+    banks: [u8; 8],
     awaits: Awaits,
 }
 
 impl Reader {
     pub fn let_in() -> Reader {
-        let zeros = Zeros::none_yet();
-        Reader { zeros, frame_begun: false, start: 0, lock: 0, awaits: Awaits::Rest }
+        let (zeros, banks) = (Zeros::none_yet(), [NO_BANK_YET; 8]);
+        Reader { zeros, frame_begun: false, start: 0, lock: 0, banks, awaits: Awaits::Rest }
     }
 
     /// Takes a column, counted from the start of the row, and its two bits.
     #[inline]
     pub fn step(&mut self, column: usize, cdm: u8, cds: u8) -> Option<Entry> {
         let event = self.event(column, cdm, cds)?;
-        Some(event.at(column).start(self.start))
+        let bank = self.bank(event);
+        Some(event.at(column).start(self.start).bank(bank))
+    }
+
+    /// The bank that an entry names, or 0; what it writes to a bank register counts from
+    /// the next entry on.
+    fn bank(&mut self, event: Entry) -> u8 {
+        if event.kind == Kind::Written && event.address == BANK_REGISTER {
+            self.banks[usize::from(event.id)] = event.value;
+        }
+        if names_bank(event.kind as u8, event.address) {
+            return self.banks[usize::from(event.id)];
+        }
+        0
     }
 
     #[inline]

@@ -3,26 +3,44 @@
 use super::account::place;
 use super::entry::{Entry, Kind};
 
-/// The registers after all `written` entries of a list.
-pub fn replay(registers: &[u8], entries: &[Entry]) -> Vec<u8> {
-    let mut registers = registers.to_vec();
-    for entry in entries {
-        if entry.kind == Kind::Written {
-            registers[place(entry.id, entry.address)] = entry.value;
+/// Registers that the `written` entries of a list are put into, each where "the replayed
+/// bank register" has it.
+struct Replayed<'a> {
+    banks: &'a [u8],
+    registers: Vec<u8>,
+}
+
+impl Replayed<'_> {
+    /// The register that an entry names, if there is one.
+    fn at(&mut self, entry: &Entry) -> Option<&mut u8> {
+        let place = place(self.banks, &self.registers, entry.id, entry.address)?;
+        self.registers.get_mut(place)
+    }
+
+    fn write(&mut self, entry: &Entry) {
+        if let Some(register) = self.at(entry) {
+            *register = entry.value;
         }
     }
-    registers
+}
+
+/// The registers after all `written` entries of a list.
+pub fn replay(banks: &[u8], registers: &[u8], entries: &[Entry]) -> Vec<u8> {
+    let mut replayed = Replayed { banks, registers: registers.to_vec() };
+    let written = entries.iter().filter(|entry| entry.kind == Kind::Written);
+    written.for_each(|entry| replayed.write(entry));
+    replayed.registers
 }
 
 /// Whether every `read` shows what stood there after the entries before it.
-pub fn reads_show_what_stood(registers: &[u8], entries: &[Entry]) -> bool {
-    let mut registers = registers.to_vec();
-    for entry in entries {
-        match entry.kind {
-            Kind::Written => registers[place(entry.id, entry.address)] = entry.value,
-            Kind::Read if registers[place(entry.id, entry.address)] != entry.value => return false,
-            _ => {}
+pub fn reads_show_what_stood(banks: &[u8], registers: &[u8], entries: &[Entry]) -> bool {
+    let mut replayed = Replayed { banks, registers: registers.to_vec() };
+    entries.iter().all(|entry| match entry.kind {
+        Kind::Written => {
+            replayed.write(entry);
+            true
         }
-    }
-    true
+        Kind::Read => replayed.at(entry).is_some_and(|stood| *stood == entry.value),
+        _ => true,
+    })
 }

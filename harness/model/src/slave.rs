@@ -1,7 +1,9 @@
 //! A slave, stepped column by column.
 
 use super::check::{check_bits, check_is_right, BYTE_BITS, HEADER_BITS};
-use super::frame::{BYTE_AND_CHECK, FIRST_LOCK, LAST_HEADER, MOST_BYTES, REGISTERS};
+use super::frame::{
+    ADDRESSES, BANK_BYTES, BANK_REGISTER, BYTE_AND_CHECK, FIRST_LOCK, LAST_HEADER, MOST_BYTES,
+};
 use super::phase::{of_access, of_byte_start, of_header, Phase};
 use super::rows::Zeros;
 
@@ -15,6 +17,8 @@ pub fn allows(right: u8, writing: bool) -> bool {
 struct Access {
     writing: bool,
     address: u8,
+    /// Where the register stands that the address shows.
+    place: usize,
     /// Bytes passed before the present one.
     passed: u8,
 }
@@ -54,7 +58,9 @@ enum Awaits {
     },
 }
 
+/// A slave; its registers are its banks in their order, then the fixed ones.
 pub struct Slave<'a> {
+    banks: usize,
     rights: &'a [u8],
     /// The waiting number.
     wait: u8,
@@ -65,9 +71,14 @@ pub struct Slave<'a> {
 }
 
 impl<'a> Slave<'a> {
-    pub fn at_power_on(rights: &'a [u8], wait: u8, registers: &'a mut [u8]) -> Slave<'a> {
-        let zeros = Zeros::none_yet();
-        Slave { rights, wait, registers, zeros, number: None, awaits: Awaits::Rest }
+    pub fn at_power_on(
+        banks: u8,
+        rights: &'a [u8],
+        wait: u8,
+        registers: &'a mut [u8],
+    ) -> Slave<'a> {
+        let (banks, zeros) = (usize::from(banks), Zeros::none_yet());
+        Slave { banks, rights, wait, registers, zeros, number: None, awaits: Awaits::Rest }
     }
 
     pub fn phase(&self) -> Phase {
@@ -154,13 +165,35 @@ impl<'a> Slave<'a> {
         Awaits::R { address }
     }
 
+    /// The place of the register that an address shows; none where "the register names
+    /// no held bank", and at the bank register of a slave with one bank (000).
+    fn shown(&self, address: u8) -> Option<usize> {
+        let fixed = BANK_BYTES * self.banks;
+        if address < BANK_REGISTER {
+            let chosen = usize::from(self.registers[fixed]);
+            return (chosen < self.banks).then_some(BANK_BYTES * chosen + usize::from(address));
+        }
+        let is_refused = address == BANK_REGISTER && self.banks == 1;
+        (!is_refused).then_some(fixed + usize::from(address - BANK_REGISTER))
+    }
+
+    /// The place of the register at this address, if it is there and its right allows
+    /// the access.
+    fn allowed(&self, address: u8, writing: bool) -> Option<usize> {
+        if usize::from(address) >= ADDRESSES {
+            return None;
+        }
+        self.shown(address).filter(|&place| allows(self.rights[place], writing))
+    }
+
     fn w(&mut self, address: u8, r: u8, w: u8) -> u8 {
         let writing = w == 1;
-        if r == w || !allows(self.rights[usize::from(address)], writing) {
+        let allowed = self.allowed(address, writing).filter(|_| r != w);
+        let Some(place) = allowed else {
             self.awaits = Awaits::Rest;
             return 1 - w;
-        }
-        let access = Access { writing, address, passed: 0 };
+        };
+        let access = Access { writing, address, place, passed: 0 };
         self.awaits = Awaits::ByteStart { access, waited: 0 };
         w
     }
@@ -183,7 +216,7 @@ impl<'a> Slave<'a> {
             self.awaits = Awaits::ByteStart { access, waited: waited + 1 };
             return 0;
         }
-        let held = u16::from(self.registers[usize::from(access.address)]);
+        let held = u16::from(self.registers[access.place]);
         let to_send = held << 4 | u16::from(check_bits(held, BYTE_BITS));
         let bits = if access.writing { 0 } else { to_send };
         self.awaits = Awaits::Byte { access, done: 0, bits };
@@ -212,7 +245,7 @@ impl<'a> Slave<'a> {
         }
         let right = check_is_right(bits, BYTE_BITS);
         if right {
-            self.registers[usize::from(access.address)] = (bits >> 4) as u8;
+            self.registers[access.place] = (bits >> 4) as u8;
         }
         self.awaits = Awaits::P { access, stored_or_read: right };
     }
@@ -220,15 +253,12 @@ impl<'a> Slave<'a> {
     fn p(&mut self, access: Access, stored_or_read: bool) -> u8 {
         let passed = access.passed + 1;
         let next = access.address + 1;
-        let goes_on = stored_or_read
-            && passed < MOST_BYTES
-            && usize::from(next) < REGISTERS
-            && allows(self.rights[usize::from(next)], access.writing);
-        if !goes_on {
+        let allowed = self.allowed(next, access.writing);
+        let Some(place) = allowed.filter(|_| stored_or_read && passed < MOST_BYTES) else {
             self.awaits = Awaits::Rest;
             return 1;
-        }
-        let access = Access { address: next, passed, ..access };
+        };
+        let access = Access { address: next, place, passed, ..access };
         self.awaits = Awaits::ByteStart { access, waited: 0 };
         0
     }

@@ -2,6 +2,7 @@
 
 use crate::generate::Random;
 use model::entry::ENTRY_BYTES;
+use model::frame::{registers_of, BANK_BYTES, BANK_REGISTER};
 use model::Outcome::Made;
 use model::{build_read, build_write};
 
@@ -12,15 +13,29 @@ const SEED: u64 = 1;
 
 /// The waiting number of the rows that are named for waits.
 pub const WAIT: u8 = 3;
+/// The banks of the slaves of rows that are named for banks.
+pub const BANKS: u8 = 8;
 
-/// Rows by their name, those of one name in turn, and the waiting number that they are
-/// built for; the varied ones are for so many slaves, one slave waits too.
-pub fn timed(slaves: usize) -> Vec<(&'static str, u8, Vec<Vec<u8>>)> {
-    let plain = |columns| [("dense", 0, vec![dense(columns)]), ("idle", 0, vec![vec![0; columns]])];
-    let mut all = LENGTHS.map(plain).concat();
-    all.push(("varied", 0, varied(slaves, 0)));
+/// Rows of one name, which are run in turn, and what slaves they are built for.
+pub struct Rows {
+    pub name: &'static str,
+    pub banks: u8,
+    pub wait: u8,
+    pub rows: Vec<Vec<u8>>,
+}
+
+/// All rows; the varied ones are for so many slaves, one slave waits too.
+pub fn timed(slaves: usize) -> Vec<Rows> {
+    let named = |name, banks, wait, rows| Rows { name, banks, wait, rows };
+    let mut all = Vec::new();
+    for columns in LENGTHS {
+        all.push(named("dense", 1, 0, vec![dense(columns)]));
+        all.push(named("idle", 1, 0, vec![vec![0; columns]]));
+    }
+    all.push(named("varied", 1, 0, varied(slaves, 1, 0)));
+    all.push(named("banks", BANKS, 0, varied(slaves, BANKS, 0)));
     if slaves == 1 {
-        all.push(("waits", WAIT, varied(slaves, WAIT)));
+        all.push(named("waits", 1, WAIT, varied(slaves, 1, WAIT)));
     }
     all
 }
@@ -45,15 +60,18 @@ pub fn dense(columns: usize) -> Vec<u8> {
 }
 
 /// Reads and writes of one to eight random bytes at random places of these
-/// slaves, which all wait so long, 14 to 60 zeros before each.
-fn varied_row(random: &mut Random, slaves: usize, wait: u8, columns: usize) -> Vec<u8> {
+/// slaves, which all have so many banks and wait so long, 14 to 60 zeros before each.
+/// Where there are several banks, every other frame chooses one.
+fn varied_row(random: &mut Random, slaves: usize, banks: u8, wait: u8) -> Vec<u8> {
     let mut row = Vec::new();
     let mut frame = [0; 32 + (14 + WAIT as usize) * 8];
-    while row.len() < columns {
+    while row.len() < 4096 {
         let id = random.below(slaves.min(8)) as u8;
         let count = random.between(1, 8);
         let address = random.below(129 - count) as u8;
-        let made = if random.one_in(2) {
+        let made = if banks > 1 && random.one_in(2) {
+            build_write(id, BANK_REGISTER, &[random.below(banks.into()) as u8], wait, &mut frame)
+        } else if random.one_in(2) {
             build_read(id, address, count, wait, &mut frame)
         } else {
             build_write(id, address, &random.bytes(count), wait, &mut frame)
@@ -62,31 +80,40 @@ fn varied_row(random: &mut Random, slaves: usize, wait: u8, columns: usize) -> V
         row.resize(row.len() + random.below(47), 0);
         row.extend_from_slice(&frame[..length]);
     }
-    row.truncate(columns);
+    row.truncate(4096);
     row
 }
 
-fn varied(slaves: usize, wait: u8) -> Vec<Vec<u8>> {
+fn varied(slaves: usize, banks: u8, wait: u8) -> Vec<Vec<u8>> {
     let mut random = Random::from_seed(SEED);
-    (0..VARIED_ROWS).map(|_| varied_row(&mut random, slaves, wait, 4096)).collect()
+    (0..VARIED_ROWS).map(|_| varied_row(&mut random, slaves, banks, wait)).collect()
 }
 
-/// What one slave that waits so long answers to a master row.
-pub fn answered(wait: u8, cdm: &[u8]) -> Vec<u8> {
-    let mut registers = Random::from_seed(SEED).bytes(128);
-    let mut cds = vec![0; cdm.len()];
-    model::run(1, &[3; 128], &[wait], &mut registers, cdm, &mut cds);
-    cds
-}
+impl Rows {
+    /// The columns of all rows together.
+    pub fn columns(&self) -> usize {
+        self.rows.iter().map(Vec::len).sum()
+    }
 
-/// The list of a master row and its answers.
-pub fn listed(wait: u8, cdm: &[u8]) -> Vec<u8> {
-    let mut list = vec![0; ENTRY_BYTES * cdm.len()];
-    let Made(entries) = model::read(cdm, &answered(wait, cdm), 0, &mut list) else {
-        unreachable!()
-    };
-    list.truncate(ENTRY_BYTES * entries);
-    list
+    /// What one such slave answers to a master row, its first bank chosen.
+    pub fn answered(&self, cdm: &[u8]) -> Vec<u8> {
+        let mut registers = Random::from_seed(SEED).bytes(registers_of(self.banks));
+        registers[BANK_BYTES * usize::from(self.banks)] = 0;
+        let rights = vec![3; registers.len()];
+        let mut cds = vec![0; cdm.len()];
+        model::run(1, &[self.banks], &rights, &[self.wait], &mut registers, cdm, &mut cds);
+        cds
+    }
+
+    /// The list of a master row and its answers.
+    pub fn listed(&self, cdm: &[u8]) -> Vec<u8> {
+        let mut list = vec![0; ENTRY_BYTES * cdm.len()];
+        let Made(entries) = model::read(cdm, &self.answered(cdm), 0, &mut list) else {
+            unreachable!()
+        };
+        list.truncate(ENTRY_BYTES * entries);
+        list
+    }
 }
 
 /// Two rows as text.

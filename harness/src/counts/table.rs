@@ -1,5 +1,6 @@
 //! The counts as a table.
 
+use super::banks::{BANKS, LATE, NAMED, PASSED_OVER, SITUATIONS};
 use super::waits::{told, BYTES, REPEATED, WAITS};
 use super::{kind_name, kinds, Count, Counts, Part, LOCKS, PARTS};
 use crate::case::Listed;
@@ -12,11 +13,17 @@ use std::ops::RangeInclusive;
 /// The bytes of the longest line of a text, the header.
 const LINE: RangeInclusive<usize> = 0..=7;
 
+/// A row of a table: its name, and cells of ten.
+fn row(name: &str, cells: Vec<String>) -> String {
+    let cells: String = cells.iter().map(|cell| format!("{cell:>10}")).collect();
+    format!("{name:<23}{cells}\n")
+}
+
 impl Counts {
     pub fn table(&self) -> String {
         let jobs: String = JOBS.iter().map(|job| self.table_of_job(job)).collect();
-        let waits = self.table_of_waits();
-        self.table_of_entries() + &self.table_of_phases() + &waits + &self.table_of_faults() + &jobs
+        let machines = self.table_of_phases() + &self.table_of_waits() + &self.table_of_banks();
+        self.table_of_entries() + &machines + &self.table_of_faults() + &jobs
     }
 
     fn table_of_entries(&self) -> String {
@@ -55,10 +62,6 @@ impl Counts {
     }
 
     fn table_of_waits(&self) -> String {
-        let row = |name: &str, cells: Vec<String>| {
-            let cells: String = cells.iter().map(|cell| format!("{cell:>10}")).collect();
-            format!("{name:<20}{cells}\n")
-        };
         let times = |count| self.of(count).to_string();
         let mut text = format!("\n{}", row("waits", WAITS.map(told).into()));
         for (name, is_writing) in [("read", false), ("write", true)] {
@@ -76,21 +79,62 @@ impl Counts {
         text
     }
 
+    /// Of a bank that no slave with so few has, a dash.
+    fn table_of_banks(&self) -> String {
+        let times = |count| self.of(count).to_string();
+        let mut text =
+            format!("\n{}", row("banks", BANKS.map(|banks| banks.to_string()).collect()));
+        let by_banks = |name: &str, count: &dyn Fn(u8) -> Count| {
+            row(name, BANKS.map(|banks| self.of_or_dash(count(banks))).collect())
+        };
+        text += &by_banks("   starts held", &|banks| Count::StartsAt(banks, true));
+        text += &by_banks("   starts not held", &|banks| Count::StartsAt(banks, false));
+        for bank in 0..*BANKS.end() {
+            let [reads, writes] = [false, true];
+            text += &by_banks(&format!("   reads in {bank}"), &|of| Count::InBank(reads, of, bank));
+            text +=
+                &by_banks(&format!("   writes in {bank}"), &|of| Count::InBank(writes, of, bank));
+        }
+        for next in BANKS {
+            text +=
+                &by_banks(&format!("   next to {next}"), &|banks| Count::Neighbours(banks, next));
+        }
+        text += &row("accesses met", vec!["reads".to_string(), "writes".to_string()]);
+        for (met, _) in SITUATIONS {
+            let by = [false, true].map(|writing| self.of_or_dash(Count::AtBanks(met, writing)));
+            text += &row(&format!("   {met:?}"), by.into());
+        }
+        text += &row("bank of an entry", NAMED.map(|named| format!("{named:?}")).into());
+        for kind in kinds() {
+            let by = NAMED.map(|named| self.of_or_dash(Count::Named(kind, named)));
+            text += &row(&format!("   {}", kind_name(kind)), by.into());
+        }
+        let passed_over = PASSED_OVER.map(|kind| kind as u8);
+        text += &row("passed over", passed_over.map(|kind| kind_name(kind).to_string()).into());
+        text += &row("", passed_over.map(|kind| times(Count::PassedOver(kind))).into());
+        text += &row("opened late", LATE.map(|bank| format!("{bank:?}")).into());
+        text + &row("", LATE.map(|bank| times(Count::Late(bank))).into())
+    }
+
+    /// How often it came up, a dash where it did not.
+    fn of_or_dash(&self, count: Count) -> String {
+        match self.of(count) {
+            0 => "-".to_string(),
+            times => times.to_string(),
+        }
+    }
+
     fn table_of_faults(&self) -> String {
         let row = |name: &str, cell: &dyn Fn(usize) -> String| {
             let cells: String = LINE.map(|byte| format!("{:>7}", cell(byte))).collect();
             format!("{name:<16}{cells}\n")
-        };
-        let times = |count| match self.of(count) {
-            0 => "-".to_string(),
-            times => times.to_string(),
         };
         let mut text = format!("\n{}", row("faults at byte", &|byte| byte.to_string()));
         let numbers =
             |(part, faults): (Part, Faults)| faults.iter().map(move |fault| (part, fault.0));
         for (part, number) in PARTS.into_iter().flat_map(numbers) {
             let name = format!("   {part:?} {number}");
-            text += &row(&name, &|byte| times(Count::Fault(part, number, byte)));
+            text += &row(&name, &|byte| self.of_or_dash(Count::Fault(part, number, byte)));
         }
         text
     }

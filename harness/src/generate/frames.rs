@@ -1,7 +1,9 @@
 //! Frames of a master, from S on: built, with S repeated as often as the slave waits
-//! or not, and spoiled.
+//! or not, and spoiled. Many choose a bank or cross the border to the bank register.
 
+use super::chains::{bank_number, Chain};
 use super::random::Random;
+use model::frame::BANK_REGISTER;
 use model::rows::{MOST_COLUMNS, ZEROS_TO_REST};
 use model::Outcome::{self, Made};
 use model::{build_command, build_read, build_write};
@@ -35,11 +37,21 @@ pub struct Frame {
     wait: usize,
     /// None where no byte waits, and once more is changed than the repeats.
     pub repeats: Option<Repeats>,
+    /// The ID whose bank it chooses, unless it is spoiled.
+    pub chooses: Option<u8>,
 }
 
-/// A frame for slaves with these waiting numbers.
-pub fn frame(random: &mut Random, waits: &[u8]) -> Frame {
-    let mut frame = if random.one_in(5) { command(random) } else { register_access(random, waits) };
+/// A frame for the slaves of a chain; behind one that chooses a bank of an ID it is
+/// mostly an access to that bank.
+pub fn frame(random: &mut Random, chain: &Chain, chosen: Option<u8>) -> Frame {
+    let mut frame = match chosen {
+        Some(id) if !random.one_in(4) => {
+            let address = random.below(64);
+            register_access(random, chain, id.into(), address)
+        }
+        _ if random.one_in(6) => command(random),
+        _ => any_access(random, chain),
+    };
     if random.one_in(4) {
         frame.repeat_otherwise(random);
     }
@@ -58,27 +70,49 @@ fn command(random: &mut Random) -> Frame {
     Frame::built(0, false, 0, |row| build_command(ids, cmd, row))
 }
 
-fn register_access(random: &mut Random, waits: &[u8]) -> Frame {
-    let id = if random.one_in(2) { random.below(8) } else { random.below(2) };
-    let address = match random.below(8) {
-        0 => random.between(124, 127),
-        1 => random.between(100, 127),
-        2 => random.between(60, 68),
-        _ => random.below(128),
+fn any_access(random: &mut Random, chain: &Chain) -> Frame {
+    let ids = random.pick(&[1, 1, 2, 8, 8]);
+    let id = random.below(ids);
+    let address = match random.below(16) {
+        0 | 1 => random.between(124, 127),
+        2 => random.between(100, 127),
+        3 => random.between(60, 63),
+        4..=7 => BANK_REGISTER.into(),
+        8 => random.below(128),
+        _ => random.below(64),
     };
-    let (wait, repeats) = repeats(random, waits.get(id).copied().unwrap_or(0));
+    register_access(random, chain, id, address)
+}
+
+fn register_access(random: &mut Random, chain: &Chain, id: usize, address: usize) -> Frame {
+    let (wait, repeats) = repeats(random, chain.waits.get(id).copied().unwrap_or(0));
     let count = byte_count(random, wait).min(128 - address);
-    let frame = access(random, id as u8, address as u8, count, wait);
+    let frame = access(random, chain.banks_of(id), id as u8, address as u8, count, wait);
     Frame { repeats: frame.repeats.map(|_| repeats), ..frame }
 }
 
-/// A read or a write, built to repeat S so often.
-pub fn access(random: &mut Random, id: u8, address: u8, count: usize, wait: u8) -> Frame {
-    let bytes = random.bytes(count);
-    if random.one_in(2) {
+/// A read or a write, built to repeat S so often, of a slave with so many banks: what it
+/// writes to the bank register is mostly the number of one.
+pub fn access(
+    random: &mut Random,
+    banks: u8,
+    id: u8,
+    address: u8,
+    count: usize,
+    wait: u8,
+) -> Frame {
+    let is_at_register = address == BANK_REGISTER;
+    let writing = random.one_in(2) || (is_at_register && random.one_in(2));
+    if !writing {
         return Frame::built(count, false, wait, |row| build_read(id, address, count, wait, row));
     }
-    Frame::built(count, true, wait, |row| build_write(id, address, &bytes, wait, row))
+    let mut bytes = random.bytes(count);
+    let chosen = BANK_REGISTER.checked_sub(address);
+    if let Some(byte) = chosen.and_then(|nth| bytes.get_mut(usize::from(nth))) {
+        *byte = bank_number(random, banks);
+    }
+    let frame = Frame::built(count, true, wait, |row| build_write(id, address, &bytes, wait, row));
+    Frame { chooses: is_at_register.then_some(id), ..frame }
 }
 
 /// How often S is repeated for a slave that waits so long.
@@ -113,7 +147,8 @@ impl Frame {
             unreachable!("the arguments are within the limits")
         };
         let bits = row[ZEROS_TO_REST..columns].to_vec();
-        let mut frame = Frame { bits, bytes, writing, wait: usize::from(wait), repeats: None };
+        let wait = usize::from(wait);
+        let mut frame = Frame { bits, bytes, writing, wait, repeats: None, chooses: None };
         frame.repeats = (!frame.waits_at().is_empty()).then_some(Repeats::Exactly);
         frame
     }

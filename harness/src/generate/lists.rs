@@ -27,7 +27,7 @@ fn entry(random: &mut Random) -> Vec<u8> {
         let columns = [0u16, 9, 10, 99, 100, 999, 1000, 4095, 9999, 10000, u16::MAX];
         entry[COLUMN].copy_from_slice(&random.pick(&columns).to_be_bytes());
         entry[START].copy_from_slice(&random.pick(&columns).to_be_bytes());
-        entry[ID..].fill_with(|| random.pick(&[0, 1, 9, 10, 99, 100, 199, 255]));
+        entry[ID..].fill_with(|| random.pick(&[0, 1, 9, 10, 63, 64, 99, 100, 199, 255]));
     }
     entry[KIND] = random.between(1, 16) as u8;
     entry

@@ -13,8 +13,8 @@ pub const BAD_ROW_BYTES: &[u8] = &[2, 3, 48, 49, 128, 254, 255];
 pub struct Provoked(Vec<u8>);
 
 impl Provoked {
-    /// Mostly none, often one, often several of these. Of the exclusive ones the
-    /// first stands for all: they are drawn as one number.
+    /// Mostly none, often one, often several of these, and then at times of the last ones
+    /// alone. Of the exclusive ones the first stands for all: they are drawn as one number.
     pub fn draw(random: &mut Random, numbers: &[u8], exclusive: &[u8]) -> Provoked {
         let others = exclusive.get(1..).unwrap_or_default();
         let mut numbers = numbers.to_vec();
@@ -22,7 +22,11 @@ impl Provoked {
         Provoked(match random.below(10) {
             0..=5 => Vec::new(),
             6..=7 => vec![random.pick(&numbers)],
-            _ => numbers.into_iter().filter(|_| random.one_in(2)).collect(),
+            8 => numbers.into_iter().filter(|_| random.one_in(2)).collect(),
+            _ => {
+                let first = random.below(1 + numbers.len().saturating_sub(4));
+                numbers.into_iter().skip(first).filter(|_| random.one_in(2)).collect()
+            }
         })
     }
 
@@ -45,7 +49,9 @@ pub fn spoil_length(random: &mut Random, buffer: &mut Vec<u8>, byte: u8) {
 /// A length that is not `length`.
 pub fn other_length(random: &mut Random, length: usize) -> usize {
     let any = random.below(3000);
-    let other = random.pick(&[0, length + 1, length + 128, length.wrapping_sub(1), any]);
+    let less = random.pick(&[1, 64]);
+    let more = random.pick(&[1, 64, 128]);
+    let other = random.pick(&[0, length + more, length.wrapping_sub(less), any]);
     if other == length || other > length + 5000 {
         return length + 1;
     }

@@ -1,10 +1,11 @@
 //! Recorded rows, whole and spoiled.
 
-use super::chains::chain_and_row;
+use super::chains::{chain_and_row, Chain};
 use super::provoked::{other_length, spoil_byte, Provoked, BAD_ROW_BYTES};
 use super::random::Random;
 use super::rows::long_row;
 use model::entry::{Entry, Kind};
+use model::frame::BANK_REGISTER;
 use model::list::list;
 use model::run;
 
@@ -29,7 +30,8 @@ pub fn recording(random: &mut Random) -> Recording {
     let (mut chain, row) = chain_and_row(random);
     let mut cdm = row.cdm;
     let mut cds = vec![0; cdm.len()];
-    run(chain.slaves, &chain.rights, &chain.waits, &mut chain.registers, &cdm, &mut cds);
+    let Chain { slaves, banks, rights, waits, registers } = &mut chain;
+    run(*slaves, banks, rights, waits, registers, &cdm, &mut cds);
     let answers = random.pick(&ANSWERS);
     if !cdm.is_empty() {
         match answers {
@@ -84,7 +86,7 @@ pub fn spoiled_recording(random: &mut Random, provoked: &Provoked) -> Recording 
 
 fn damage(random: &mut Random, cdm: &mut [u8], cds: &mut [u8]) {
     let length = cds.len();
-    match random.below(10) {
+    match random.below(12) {
         0 => flip_some(random, cds),
         1 => flip_some(random, cdm),
         2 => {
@@ -97,8 +99,20 @@ fn damage(random: &mut Random, cdm: &mut [u8], cds: &mut [u8]) {
             let to = (from + random.between(1, 30)).min(length);
             cds[from..to].fill(random.bit());
         }
+        5 | 6 => break_line(random, cdm, cds),
         _ => flip_at_entries(random, cdm, cds),
     }
+}
+
+/// From some column on all answers are the same; mostly from a written byte on, the first
+/// that chooses a bank if one does.
+fn break_line(random: &mut Random, cdm: &[u8], cds: &mut [u8]) {
+    let mut written = list(cdm, cds, 0);
+    written.retain(|entry| entry.kind == Kind::Written);
+    let choice = written.iter().find(|entry| entry.address == BANK_REGISTER);
+    let any = random.below(cds.len());
+    let from = choice.or(written.first()).map_or(any, |entry| entry.column + 1);
+    cds[random.pick(&[any, from, from, from])..].fill(random.pick(&[0, 0, 0, 1, 1]));
 }
 
 fn flip_some(random: &mut Random, row: &mut [u8]) {
@@ -113,8 +127,8 @@ fn flip_each(random: &mut Random, row: &mut [u8], one_in: usize) {
     }
 }
 
-/// Flips answers on which an entry hangs: in its own column, in one before, or
-/// at the S of its byte, confirmed or waited for.
+/// Flips answers on which an entry hangs: in its own column, in one before, at the S of
+/// its byte, confirmed or waited for, or at the R or the W of its frame.
 fn flip_at_entries(random: &mut Random, cdm: &[u8], cds: &mut [u8]) {
     let one_in = random.pick(&[2, 4, 200, 1000]);
     for entry in list(cdm, cds, 0) {
@@ -123,6 +137,9 @@ fn flip_at_entries(random: &mut Random, cdm: &[u8], cds: &mut [u8]) {
             cds[entry.column] ^= random.bit();
         } else if random.one_in(one_in) {
             cds[entry.column - back] ^= 1;
+        } else if random.one_in(2 * one_in) {
+            let column = entry.start + random.pick(&[16, 16, 17]);
+            cds.iter_mut().skip(column).take(1).for_each(|bit| *bit ^= 1);
         }
     }
 }

@@ -1,5 +1,6 @@
 //! Master rows: frames, joined and cut, and rows without sense.
 
+use super::chains::Chain;
 use super::frames::{access, frame, Frame, Repeats};
 use super::random::Random;
 use model::rows::MOST_COLUMNS;
@@ -32,14 +33,14 @@ impl MasterRow {
     }
 }
 
-/// A master row of at most 4,096 columns for slaves with these waiting numbers.
-pub fn master_row(random: &mut Random, waits: &[u8]) -> MasterRow {
+/// A master row of at most 4,096 columns for the slaves of a chain.
+pub fn master_row(random: &mut Random, chain: &Chain) -> MasterRow {
     let target = length(random);
     let ones = random.pick(&[1, 2, 8, 15, 16]);
     let mut row = match random.below(24) {
         0 => MasterRow { cdm: random.bits(target, ones), ..MasterRow::default() },
         1 => MasterRow { cdm: vec![0; target], ..MasterRow::default() },
-        _ => joined_frames(random, target, waits),
+        _ => joined_frames(random, target, chain),
     };
     if random.one_in(2) {
         row.cdm.truncate(target);
@@ -51,17 +52,18 @@ pub fn master_row(random: &mut Random, waits: &[u8]) -> MasterRow {
 /// A row of more than 4,096 columns.
 pub fn long_row(random: &mut Random) -> Vec<u8> {
     let extra = random.pick(&[1, 1, 1, 2, 100]);
-    let mut row = joined_frames(random, 200, &[]).cdm;
+    let mut row = joined_frames(random, 200, &Chain::default()).cdm;
     row.resize(MOST_COLUMNS + extra, 0);
     row
 }
 
-/// A row with an access to ID 0, which waits so long, that goes up to the 64th byte
-/// and often beyond.
-pub fn long_access(random: &mut Random, wait: u8) -> MasterRow {
-    let address = random.below(65) as u8;
+/// A row with an access to ID 0, which waits so long and has so many banks, that goes up
+/// to the 64th byte and often beyond. One bank ends in front of the bank register.
+pub fn long_access(random: &mut Random, wait: u8, banks: u8) -> MasterRow {
+    let any = random.below(65);
+    let address = if banks == 1 { random.pick(&[any, 0, 64]) } else { any };
     let count = random.pick(&[63, 64, 64, 64]);
-    let mut frame = access(random, 0, address, count, wait);
+    let mut frame = access(random, banks, 0, address as u8, count, wait);
     if random.one_in(2) {
         frame.overrun(random);
     }
@@ -78,22 +80,25 @@ fn length(random: &mut Random) -> usize {
         0 => MOST_COLUMNS,
         1 => random.between(1000, MOST_COLUMNS),
         2..=7 => random.between(0, 50),
-        8..=40 => random.between(0, 300),
+        8..=32 => random.between(0, 300),
         _ => random.between(0, 800),
     }
 }
 
-fn joined_frames(random: &mut Random, target: usize, waits: &[u8]) -> MasterRow {
+fn joined_frames(random: &mut Random, target: usize, chain: &Chain) -> MasterRow {
     let mut row = MasterRow::default();
     if random.one_in(8) {
         let columns = random.between(0, 20);
         row.cdm = random.bits(columns, 8);
     }
+    let mut chosen = None;
     while row.cdm.len() < target {
         row.push_zeros(
             random.pick(&[0, 1, 5, 12, 13, 13, 14, 14, 14, 14, 14, 14, 14, 15, 15, 16, 28, 40]),
         );
-        row.push(&frame(random, waits));
+        let frame = frame(random, chain, chosen);
+        chosen = frame.chooses;
+        row.push(&frame);
     }
     if random.one_in(2) {
         row.push_zeros(random.between(0, 16));

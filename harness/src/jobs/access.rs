@@ -115,14 +115,16 @@ impl Access {
     }
 
     /// A slave that waits as long as the row was built for takes or gives every byte of
-    /// it, the last two columns before its end.
+    /// it, the last two columns before its end. Each slave has two banks, the first one
+    /// chosen: one bank would end at the bank register.
     pub fn check(self, row: &[u8]) -> Result<(), String> {
         let slaves = usize::from(self.id) + 1;
         let mut waits = vec![0; slaves];
         waits[slaves - 1] = self.wait;
-        let (rights, mut registers) = (vec![3; 128 * slaves], vec![0x5A; 128 * slaves]);
+        let banks = vec![2; slaves];
+        let (rights, mut registers) = (vec![3; 192 * slaves], vec![0; 192 * slaves]);
         let mut cds = vec![0; row.len()];
-        model::run(slaves, &rights, &waits, &mut registers, row, &mut cds);
+        model::run(slaves, &banks, &rights, &waits, &mut registers, row, &mut cds);
         let entries = list(row, &cds, 0);
         let kind = if self.writing { Kind::Written } else { Kind::Read };
         let bytes: Vec<_> = entries.iter().filter(|entry| entry.kind == kind).collect();

@@ -1,7 +1,8 @@
 //! The job that prints a list.
 
 use super::Calls;
-use crate::bench::{rows, Timed};
+use crate::bench::rows::{self, Rows};
+use crate::bench::Timed;
 use crate::counts::{Count, Counts};
 use crate::generate::lists::{list_bytes, spoil_list, LIST_SPOILS};
 use crate::generate::{room, Marks, Provoked, Random};
@@ -48,14 +49,14 @@ impl Job for ListToText {
 
     /// Its columns are the printed bytes.
     fn timed() -> Vec<Timed<ListToText>> {
-        let timed = |(name, wait, rows): (_, _, Vec<Vec<u8>>)| {
+        let timed = |timed: Rows| {
             let cases: Vec<_> =
-                rows.iter().map(|cdm| ListToText::of_one_slave(wait, cdm)).collect();
+                timed.rows.iter().map(|cdm| ListToText::of_one_slave(&timed, cdm)).collect();
             let entries = cases.iter().map(|case| case.kinds().count()).sum::<usize>();
             let bytes = cases.iter().map(|case| case.out.len()).sum();
-            Timed::new(&format!("list, {}", entries / rows.len()), name, bytes, cases)
+            Timed::new(&format!("list, {}", entries / cases.len()), timed.name, bytes, cases)
         };
-        let is_timed = |&(name, ..): &(&str, _, _)| ["dense", "varied"].contains(&name);
+        let is_timed = |timed: &Rows| ["dense", "varied", "banks"].contains(&timed.name);
         rows::timed(1).into_iter().filter(is_timed).map(timed).collect()
     }
 }
@@ -71,8 +72,8 @@ impl ListToText {
     }
 
     /// The list of a row that one slave answered.
-    fn of_one_slave(wait: u8, cdm: &[u8]) -> ListToText {
-        let list = rows::listed(wait, cdm);
+    fn of_one_slave(timed: &Rows, cdm: &[u8]) -> ListToText {
+        let list = timed.listed(cdm);
         let bytes = printed_bytes(&list).expect("a list that was read");
         ListToText { list: Lent::copy(&list), out: Lent::zeros(bytes) }
     }

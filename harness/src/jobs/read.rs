@@ -1,8 +1,9 @@
 //! The job that reads two recorded rows into a list.
 
 use super::Calls;
-use crate::bench::{rows, Timed};
-use crate::checks::{gives_up, late_opening, must, starts};
+use crate::bench::rows::{self, Rows};
+use crate::bench::Timed;
+use crate::checks::{banks, gives_up, late_opening, must, starts};
 use crate::conditions::{bad_byte, too_long};
 use crate::counts::{Count, Counts};
 use crate::generate::provoked::{TWO_16, TWO_32};
@@ -10,7 +11,7 @@ use crate::generate::recordings::{spoiled_recording, Answers};
 use crate::generate::{room, Marks, Provoked, Random};
 use crate::job::{fields, Job, Refusals};
 use crate::lent::Lent;
-use model::entry::{column_in, COLUMN, ENTRY_BYTES, KIND, START};
+use model::entry::{column_in, BANK, COLUMN, ENTRY_BYTES, KIND, START};
 use model::list::{list, phases, printed_at_most};
 use model::rows::ZEROS_TO_REST;
 use model::Outcome::{self, Made};
@@ -58,6 +59,7 @@ impl Job for Read {
     fn check(&self, left: &Read, outcome: Outcome, random: &mut Random) -> Result<(), String> {
         let Made(made) = outcome else { return Ok(()) };
         starts(&self.cdm, left.list(made))?;
+        banks(left.list(made))?;
         gives_up(&self.cdm, &self.cds, left.list(made))?;
         late_opening(&self.cdm, &self.cds, random)
     }
@@ -73,6 +75,11 @@ impl Job for Read {
         for entry in self.reopened(list) {
             let is_past_others = list[START] != entry[START];
             counts.add_reopened(entry[KIND], self.opening > 0, is_past_others);
+        }
+        let entries = |opening| model::list::list(&self.cdm, &self.cds, opening);
+        counts.add_named(&entries(self.opening));
+        if self.opening > 0 {
+            counts.add_late(&entries(self.opening), &entries(0));
         }
         let met = phases(&self.cdm, &self.cds, self.opening);
         counts.add_phases(Count::ReaderAt, &met);
@@ -101,10 +108,9 @@ impl Job for Read {
     }
 
     fn timed() -> Vec<Timed<Read>> {
-        let timed = |(name, wait, rows): (_, _, Vec<Vec<u8>>)| {
-            let columns = rows.concat().len();
-            let cases = rows.iter().map(|cdm| Read::answered_by_one_slave(wait, cdm)).collect();
-            Timed::new("read", name, columns, cases)
+        let timed = |timed: Rows| {
+            let cases = timed.rows.iter().map(|cdm| Read::answered_by_one_slave(&timed, cdm));
+            Timed::new("read", timed.name, timed.columns(), cases.collect())
         };
         rows::timed(1).into_iter().map(timed).collect()
     }
@@ -120,11 +126,11 @@ impl Read {
         ENTRY_BYTES * list(&self.cdm, &self.cds, self.opening).len()
     }
 
-    fn answered_by_one_slave(wait: u8, cdm: &[u8]) -> Read {
+    fn answered_by_one_slave(timed: &Rows, cdm: &[u8]) -> Read {
         Read {
             opening: 0,
             cdm: Lent::copy(cdm),
-            cds: Lent::copy(&rows::answered(wait, cdm)),
+            cds: Lent::copy(&timed.answered(cdm)),
             out: Lent::zeros(ENTRY_BYTES * cdm.len()),
             answers: Answers::Honest,
             first: 0,
@@ -142,7 +148,7 @@ impl Read {
     }
 
     /// A reader let in fourteen columns before an entry's start lists that entry too,
-    /// and just what the list has from its frame on.
+    /// and just what the list has from its frame on; its banks are those of its own list.
     fn open_at_frame(&self, list: &[u8], entry: &[u8], calls: &impl Calls) -> Result<(), String> {
         let start = column_in(&entry[START]);
         let wanted = from_column(list, start);
@@ -151,9 +157,11 @@ impl Read {
         let told = |what: &str| format!("opened for {entry:?} at {}: {what}", again.opening);
         let made = wanted.len() / ENTRY_BYTES;
         must(outcome == Made(made), &told(&format!("{made} entries, not {outcome:?}")))?;
-        let is_listed = again.list(made).chunks(ENTRY_BYTES).any(|other| other == entry);
+        let bare_list = bare(again.list(made));
+        let is_listed = bare_list.chunks(ENTRY_BYTES).any(|other| other == bare(entry));
         must(is_listed, &told("the entry is listed"))?;
-        must(again.list(made) == wanted, &told("the list from its frame on"))?;
+        must(bare_list == bare(&wanted), &told("the list from its frame on, but for the bank"))?;
+        banks(again.list(made)).map_err(|wrong| told(&wrong))?;
         let (behind, before) = (&again.out[wanted.len()..], &self.out[wanted.len()..]);
         let is_kept = behind == before && again.out.touched_guard().is_none();
         must(is_kept, &told("bytes past the list stay"))
@@ -164,6 +172,13 @@ impl Read {
 fn from_column(list: &[u8], column: usize) -> Vec<u8> {
     let is_behind = |entry: &&[u8]| column_in(&entry[COLUMN]) >= column;
     list.chunks(ENTRY_BYTES).filter(is_behind).flatten().copied().collect()
+}
+
+/// A list without its banks.
+fn bare(list: &[u8]) -> Vec<u8> {
+    let mut bare = list.to_vec();
+    bare.chunks_mut(ENTRY_BYTES).for_each(|entry| entry[BANK] = 0);
+    bare
 }
 
 fn printed(list: &[u8]) -> String {

@@ -2,10 +2,10 @@
 
 use super::Calls;
 use crate::bench::{rows, Timed};
-use crate::checks::{gives_up, late_opening, must, starts};
+use crate::checks::{banks, gives_up, late_opening, must, starts};
 use crate::conditions::{bad_byte, too_long};
 use crate::counts::{Count, Counts};
-use crate::generate::chains::{chain_and_row, chain_of};
+use crate::generate::chains::{bank_registers, chain_and_row, chain_of, Chain};
 use crate::generate::provoked::{spoil_byte, spoil_length, BAD_ROW_BYTES, TWO_16, TWO_32, TWO_57};
 use crate::generate::recordings::two_lengths;
 use crate::generate::rows::Known;
@@ -22,15 +22,16 @@ use model::Outcome::{self, Made};
 
 fields!(Run {
     slaves: usize;
-    rights: Rights, waits: Bytes, registers: Bytes, cdm: Row, cds: Row;
+    banks: Banks, rights: Rights, waits: Bytes, registers: Bytes, cdm: Row, cds: Row;
     known: Vec<Known>
 });
 
 impl Job for Run {
     const REFUSALS: Refusals<Run> = &[
         (1, |case| case.slaves >= 17),
-        (2, |case| Some(case.registers.len()) != case.slaves.checked_mul(128)),
-        (3, |case| Some(case.rights.len()) != case.slaves.checked_mul(128)),
+        (19, |case| case.banks.len() != case.slaves || case.banks.iter().any(|&b| b == 0 || b > 8)),
+        (2, |case| case.registers.len() != bytes_of(&case.banks)),
+        (3, |case| case.rights.len() != bytes_of(&case.banks)),
         (4, |case| case.rights.iter().any(|right| ![0, 1, 2, 3].contains(right))),
         (18, |case| case.waits.len() != case.slaves),
         (5, |case| too_long(&case.cdm, &case.cds)),
@@ -46,6 +47,9 @@ impl Job for Run {
             let slaves = random.pick(&[17, 17, 17, 18, 32, 200]);
             chain = chain_of(random, slaves);
         }
+        if provoked.has(19) {
+            spoil_banks(random, &mut chain);
+        }
         if provoked.has(2) {
             spoil_length(random, &mut chain.registers, 7);
         }
@@ -56,7 +60,7 @@ impl Job for Run {
             spoil_byte(random, &mut chain.rights, &[4, 5, 7, 8, 128, 255]);
         }
         if provoked.has(18) {
-            spoil_waits(random, &mut chain.waits);
+            spoil_table(random, &mut chain.waits, 0);
         }
         let (mut cdm, cds_length) = two_lengths(random, row.cdm, provoked);
         if provoked.has(7) {
@@ -65,6 +69,7 @@ impl Job for Run {
         let cds = random.bytes(cds_length);
         Run {
             slaves: chain.slaves,
+            banks: Lent::copy(&chain.banks),
             rights: Lent::copy(&chain.rights),
             waits: Lent::copy(&chain.waits),
             registers: Lent::copy(&chain.registers),
@@ -75,21 +80,23 @@ impl Job for Run {
     }
 
     fn call(&mut self, calls: &impl Calls) -> Outcome {
-        let (rights, waits) = (&self.rights, &self.waits);
-        calls.run(self.slaves, rights, waits, &mut self.registers, &self.cdm, &mut self.cds)
+        let Run { slaves, banks, rights, waits, registers, cdm, cds, .. } = self;
+        calls.run(*slaves, banks, rights, waits, registers, cdm, cds)
     }
 
     fn check(&self, left: &Run, outcome: Outcome, random: &mut Random) -> Result<(), String> {
         let Made(_) = outcome else { return Ok(()) };
         let account = self.account();
         let entries = list(&self.cdm, &left.cds, 0);
-        let replayed = replay(&self.registers, &entries);
+        let replayed = replay(&self.banks, &self.registers, &entries);
+        let reads = reads_show_what_stood(&self.banks, &self.registers, &entries);
         must(entries == account.entries, "the list of honest rows is the chain's account")?;
         must(account.registers == left.registers[..], "the account's registers are the chain's")?;
         must(replayed == left.registers[..], "replay gives the final registers")?;
-        must(reads_show_what_stood(&self.registers, &entries), "reads show what stood there")?;
+        must(reads, "reads show what stood there")?;
         let account: Vec<u8> = account.entries.iter().flat_map(|entry| entry.bytes()).collect();
         starts(&self.cdm, &account)?;
+        banks(&account)?;
         gives_up(&self.cdm, &left.cds, &account)?;
         let waits =
             |entry: &Entry| entry.kind != Kind::Mute || self.waits[usize::from(entry.id)] > 0;
@@ -99,33 +106,31 @@ impl Job for Run {
     }
 
     fn count(&self, _: &Run, _: usize, counts: &mut Counts) {
-        let met = phases(&self.rights, &self.waits, &mut self.registers.clone(), &self.cdm);
+        let Run { banks, rights, waits, registers, cdm, known, .. } = self;
+        let met = phases(banks, rights, waits, &mut registers.clone(), cdm);
         counts.add_phases(Count::SlaveAt, &met);
-        counts.add_waits(&self.waits, &self.cdm, &self.known, &self.account().entries);
+        let account = self.account().entries;
+        counts.add_waits(waits, cdm, known, &account);
+        counts.add_banks(banks, rights, registers, &account);
     }
 
     fn shown(&self, who: &str, _: usize) -> String {
         format!("  cds after the {who:<7}: {}\n", Use::Row.shown(&self.cds))
     }
 
-    /// Chains of fewer slaves, counted from the far end.
+    /// Chains of fewer slaves, counted from the far end, or of fewer banks.
     fn smaller(&self) -> Vec<Run> {
-        let with = |slaves: usize| {
-            let mut smaller = Run { slaves, ..self.clone() };
-            smaller.rights.cut(128 * slaves, usize::MAX);
-            smaller.waits.cut(slaves, usize::MAX);
-            smaller.registers.cut(128 * slaves, usize::MAX);
-            smaller
-        };
-        (0..self.slaves.min(17)).map(with).collect()
+        let slaves = (0..self.slaves.min(17)).map(|slaves| self.with_slaves(slaves));
+        let banks = (1..8).map(|most| self.with_banks(most));
+        slaves.chain(banks.filter(|fewer| fewer.banks[..] != self.banks[..])).collect()
     }
 
     fn timed() -> Vec<Timed<Run>> {
         let timed = |slaves: usize| {
-            rows::timed(slaves).into_iter().map(move |(name, wait, rows)| {
-                let columns = rows.concat().len();
-                let cases = rows.iter().map(|cdm| Run::of_open_slaves(slaves, wait, cdm)).collect();
-                Timed::new(&format!("run, {slaves} slaves"), name, columns, cases)
+            rows::timed(slaves).into_iter().map(move |timed| {
+                let columns = timed.columns();
+                let cases = timed.rows.iter().map(|cdm| Run::of_open_slaves(slaves, &timed, cdm));
+                Timed::new(&format!("run, {slaves} slaves"), timed.name, columns, cases.collect())
             })
         };
         [1, 8, 16].into_iter().flat_map(timed).collect()
@@ -133,13 +138,17 @@ impl Job for Run {
 }
 
 impl Run {
-    /// All rights 3, and the same waiting number.
-    fn of_open_slaves(slaves: usize, wait: u8, cdm: &[u8]) -> Run {
+    /// All rights 3, the same waiting number, the same banks and the first one chosen.
+    fn of_open_slaves(slaves: usize, timed: &rows::Rows, cdm: &[u8]) -> Run {
+        let banks = vec![timed.banks; slaves];
+        let mut registers = vec![0x5A; bytes_of(&banks)];
+        bank_registers(&banks).for_each(|(place, _)| registers[place] = 0);
         Run {
             slaves,
-            rights: Lent::copy(&vec![3; 128 * slaves]),
-            waits: Lent::copy(&vec![wait; slaves]),
-            registers: Lent::copy(&vec![0x5A; 128 * slaves]),
+            banks: Lent::copy(&banks),
+            rights: Lent::copy(&vec![3; registers.len()]),
+            waits: Lent::copy(&vec![timed.wait; slaves]),
+            registers: Lent::copy(&registers),
             cdm: Lent::copy(cdm),
             cds: Lent::zeros(cdm.len()),
             known: Vec::new(),
@@ -147,11 +156,38 @@ impl Run {
     }
 
     fn account(&self) -> Account<'_> {
-        account(self.slaves, &self.rights, &self.waits, &self.registers, &self.cdm)
+        account(&self.banks, &self.rights, &self.waits, &self.registers, &self.cdm)
     }
 
-    /// "Two runs with the same rights", and waits, "and master row that differ only in
-    /// registers without the read right give the same answer row."
+    /// The first so many slaves of its chain.
+    fn with_slaves(&self, slaves: usize) -> Run {
+        let mut smaller = Run { slaves, ..self.clone() };
+        smaller.banks.cut(slaves, usize::MAX);
+        let bytes = bytes_of(&smaller.banks);
+        smaller.rights.cut(bytes, usize::MAX);
+        smaller.waits.cut(slaves, usize::MAX);
+        smaller.registers.cut(bytes, usize::MAX);
+        smaller
+    }
+
+    /// Its slaves with the first so many of their banks.
+    fn with_banks(&self, most: u8) -> Run {
+        let mut smaller = self.clone();
+        let mut end = 0;
+        for banks in smaller.banks.iter_mut() {
+            let bank = 64 * usize::from(*banks).min(most.into());
+            let (from, to) = (end + bank, end + 64 * usize::from(*banks));
+            smaller.rights.cut(from, to);
+            smaller.registers.cut(from, to);
+            *banks = most.min(*banks);
+            end = from + 64;
+        }
+        smaller
+    }
+
+    /// "Two runs with the same rights", banks and waits, "and master row that differ only
+    /// in registers without the read right give the same answer row"; "in 01's two runs
+    /// the bank registers are equal".
     fn check_two_runs(&self, left: &Run, random: &mut Random) -> Result<(), String> {
         let mut other = self.clone();
         for (register, &right) in other.registers.iter_mut().zip(self.rights.iter()) {
@@ -159,16 +195,39 @@ impl Run {
                 *register = random.next() as u8;
             }
         }
+        for (place, _) in bank_registers(&self.banks) {
+            other.registers[place] = self.registers[place];
+        }
         other.call(&super::Model);
         must(other.cds[..] == left.cds[..], "two runs give the same answers")
     }
 }
 
-/// Gives the table of waits a length that it must not have.
-fn spoil_waits(random: &mut Random, waits: &mut Vec<u8>) {
-    let slaves = waits.len();
+/// The bytes that the registers, or the rights, of slaves with these banks have.
+fn bytes_of(banks: &[u8]) -> usize {
+    banks.iter().map(|&banks| 64 + 64 * usize::from(banks)).sum()
+}
+
+/// Gives the table of banks a length or a number that it must not have; registers and
+/// rights mostly follow it.
+fn spoil_banks(random: &mut Random, chain: &mut Chain) {
+    if random.one_in(2) && !chain.banks.is_empty() {
+        spoil_byte(random, &mut chain.banks, &[0, 0, 9, 9, 10, 128, 255]);
+    } else {
+        spoil_table(random, &mut chain.banks, 1);
+    }
+    let bytes = bytes_of(&chain.banks);
+    if !random.one_in(4) && bytes < 40_000 {
+        chain.rights.resize(bytes, 3);
+        chain.registers.resize(bytes, 0);
+    }
+}
+
+/// Gives a table with one number a slave a length that it must not have.
+fn spoil_table(random: &mut Random, table: &mut Vec<u8>, number: u8) {
+    let slaves = table.len();
     let far = slaves + random.pick(&[128, 256, 256, TWO_16]);
     let fewer = slaves.saturating_sub(1);
     let length = random.pick(&[0, fewer, fewer, slaves + 1, slaves + 1, 2 * slaves, far]);
-    waits.resize(if length == slaves { slaves + 1 } else { length }, 0);
+    table.resize(if length == slaves { slaves + 1 } else { length }, number);
 }

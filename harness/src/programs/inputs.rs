@@ -42,17 +42,55 @@ pub fn slow_memory() -> Input {
     assert_eq!(build_read(0, 0x44, 1, 2, second), Made(second.len() - 1));
     let input = input("a slow memory", None, text_of_slave(3, 1, &row));
     let wanted = [
-        "event\tcolumn\tstart\tid\taddress\tvalue",
-        "lock\t23\t14\t-\t-\t1",
-        "read\t47\t14\t0\t68\t90",
-        "read\t64\t14\t0\t69\t1",
-        "end\t66\t14\t-\t-\t-",
-        "lock\t89\t80\t-\t-\t1",
-        "mute\t101\t80\t0\t68\t-",
-        "end\t114\t80\t-\t-\t-\n",
+        "event\tcolumn\tstart\tid\taddress\tbank\tvalue",
+        "lock\t23\t14\t-\t-\t-\t1",
+        "read\t47\t14\t0\t68\t-\t90",
+        "read\t64\t14\t0\t69\t-\t1",
+        "end\t66\t14\t-\t-\t-\t-",
+        "lock\t89\t80\t-\t-\t-\t1",
+        "mute\t101\t80\t0\t68\t-\t-",
+        "end\t114\t80\t-\t-\t-\t-\n",
     ];
     assert_eq!(input.report(), wanted.join("\n").as_bytes());
     input
+}
+
+/// A recording of a calibration, which `examples/` holds: of two slaves ID 1 has four
+/// banks; bank 3 is chosen, a byte at address 16 behind it is written and read back.
+/// Opened behind the frame that chooses the bank, it is not known.
+pub fn calibrations() -> [Input; 2] {
+    let choice = [
+        "lock\t23\t14\t-\t-\t-\t2\n",
+        "written\t44\t14\t1\t64\t-\t3\n",
+        "end\t57\t14\t-\t-\t-\t-\n",
+    ];
+    let opened = |name, opening, choice: &[&str], bank: u8| {
+        let input = input(name, opening, calibration_text());
+        let behind = [
+            "lock\t69\t60\t-\t-\t-\t2\n".to_string(),
+            format!("written\t90\t60\t1\t16\t{bank}\t196\n"),
+            "end\t103\t60\t-\t-\t-\t-\n".to_string(),
+            "lock\t115\t106\t-\t-\t-\t2\n".to_string(),
+            format!("read\t136\t106\t1\t16\t{bank}\t196\n"),
+            "end\t138\t106\t-\t-\t-\t-\n".to_string(),
+        ];
+        let header = "event\tcolumn\tstart\tid\taddress\tbank\tvalue\n".to_string();
+        let wanted = header + &choice.concat() + &behind.concat();
+        assert_eq!(String::from_utf8_lossy(&input.report()), wanted, "{name}");
+        input
+    };
+    [
+        opened("a calibration", None, &choice, 3),
+        opened("a calibration, opened late", Some(46), &[], 255),
+    ]
+}
+
+fn calibration_text() -> Vec<u8> {
+    let mut row = vec![0; 3 * 46 + 1];
+    assert_eq!(build_write(1, 64, &[3], 0, &mut row), Made(46));
+    assert_eq!(build_write(1, 0x10, &[0xC4], 0, &mut row[46..]), Made(46));
+    assert_eq!(build_read(1, 0x10, 1, 0, &mut row[92..]), Made(46));
+    text_of_slaves(&[1, 4], &[0, 0], &mut [0; 128 + 320], &row)
 }
 
 /// The inputs that the linked program alone is tried on.
@@ -69,6 +107,7 @@ pub fn named() -> Vec<Input> {
         input("opened in the middle of a frame", Some(30), text(&two_frames)),
         input("an opening column past the end", Some(48), text(&bench_row(14, 1))),
     ];
+    inputs.extend(calibrations());
     inputs.extend(at_frame(&two_frames));
     inputs
 }
@@ -79,7 +118,7 @@ fn at_frame(two_frames: &[u8]) -> [Input; 3] {
     let opened = |name, opening, is_listed| {
         let input = input(name, opening, text(two_frames));
         let report = String::from_utf8(input.report()).expect("a list is printed");
-        assert_eq!(report.contains("\nread\t104\t74\t0\t68\t90\n"), is_listed, "{name}");
+        assert_eq!(report.contains("\nread\t104\t74\t0\t68\t-\t90\n"), is_listed, "{name}");
         input
     };
     [
@@ -122,13 +161,19 @@ fn text(cdm: &[u8]) -> Vec<u8> {
     text_of_slave(0, 0, cdm)
 }
 
-/// The same for a slave that waits so long, and whose register 0x45 holds this; all
-/// rights are 3.
+/// The same for a slave that waits so long, and whose register 0x45 holds this.
 fn text_of_slave(wait: u8, behind: u8, cdm: &[u8]) -> Vec<u8> {
-    let mut registers = vec![0; 128];
+    let mut registers = [0; 128];
     registers[0x44..0x46].copy_from_slice(&[0x5A, behind]);
+    text_of_slaves(&[1], &[wait], &mut registers, cdm)
+}
+
+/// A master row and the answers of slaves with all rights 3, as text.
+fn text_of_slaves(banks: &[u8], waits: &[u8], registers: &mut [u8], cdm: &[u8]) -> Vec<u8> {
+    let rights = vec![3; registers.len()];
     let mut cds = vec![0; cdm.len()];
-    assert_eq!(run(1, &[3; 128], &[wait], &mut registers, cdm, &mut cds), Made(cdm.len()));
+    let made = run(banks.len(), banks, &rights, waits, registers, cdm, &mut cds);
+    assert_eq!(made, Made(cdm.len()));
     let mut text = vec![0; 8 + 4 * cdm.len()];
     assert_eq!(rows_to_text(cdm, &cds, &mut text), Made(text.len()));
     text

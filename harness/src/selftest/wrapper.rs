@@ -3,7 +3,8 @@
 
 use super::Card;
 use crate::library::biss::{self, answer, Answer, Refusal};
-use model::entry::{ADDRESS, COLUMN, ENTRY_BYTES, ID, KIND, START, VALUE};
+use model::entry::{ADDRESS, BANK, COLUMN, ENTRY_BYTES, ID, KIND, NO_BANK_YET, START, VALUE};
+use model::frame::BANK_REGISTER;
 use model::list::printed_at_most;
 use model::rows::ZEROS_TO_REST;
 
@@ -27,7 +28,7 @@ const CODES: [(u64, Answer); 11] = [
     (46, Ok(46)),
     (REFUSED - 1, Ok((1 << 63) - 1)),
     (REFUSED + 1, Err(Refusal::Number(1))),
-    (REFUSED + 18, Err(Refusal::Number(18))),
+    (REFUSED + 19, Err(Refusal::Number(19))),
     (REFUSED + 63, Err(Refusal::Number(63))),
     (REFUSED + LINE + 13, in_text(13, 1, 0)),
     (REFUSED + 47 * LINE + 2 * BYTE + 14, in_text(14, 47, 2)),
@@ -50,7 +51,7 @@ fn codes(card: &mut Card) {
 
 /// The wrapper has the words of the table in biss.h; 11 is given no more.
 fn words(card: &mut Card) {
-    for number in 1..=18 {
+    for number in 1..=19 {
         let row = format!(" {number:>2}  {}", Refusal::Number(number));
         card.same(&row, BISS_H.contains(&row), number != 11);
     }
@@ -63,15 +64,20 @@ fn layout(card: &mut Card) {
     card.same("bytes of a list's header", biss::LIST_HEADER_BYTES, printed_at_most(0));
     card.same("bytes of the longest line", biss::LIST_LINE_BYTES, line);
     card.same("zeros before S", biss::REST, ZEROS_TO_REST);
+    card.same("the bank register", biss::BANK_REGISTER, BANK_REGISTER);
+    card.same("no bank yet", biss::NO_BANK_YET, NO_BANK_YET);
     let named = [
         ("KIND", KIND),
         ("COLUMN", COLUMN.start),
         ("START", START.start),
         ("ID", ID),
         ("ADDRESS", ADDRESS),
+        ("BANK", BANK),
         ("VALUE", VALUE),
         ("ENTRY_BYTES", ENTRY_BYTES),
         ("REST", ZEROS_TO_REST),
+        ("BANK_REGISTER", BANK_REGISTER.into()),
+        ("NO_BANK_YET", NO_BANK_YET.into()),
         ("LIST_HEADER_BYTES", printed_at_most(0)),
         ("LIST_LINE_BYTES", line),
     ];
@@ -85,10 +91,10 @@ fn layout(card: &mut Card) {
 
 /// The wrapper takes a list apart into its entries.
 fn entries(card: &mut Card) {
-    let list = [[11, 2, 16, 1, 242, 3, 68, 90], [15, 15, 255, 15, 14, 0, 0, 0]].concat();
+    let list = [[11, 2, 16, 1, 242, 3, 16, 2, 90], [15, 15, 255, 15, 14, 0, 0, 0, 0]].concat();
     let wanted = vec![
-        biss::Entry { kind: 11, column: 528, start: 498, id: 3, address: 68, value: 90 },
-        biss::Entry { kind: 15, column: 4095, start: 3854, id: 0, address: 0, value: 0 },
+        biss::Entry { kind: 11, column: 528, start: 498, id: 3, address: 16, bank: 2, value: 90 },
+        biss::Entry { kind: 15, column: 4095, start: 3854, id: 0, address: 0, bank: 0, value: 0 },
     ];
     card.same("entries of a list", biss::entries(&list).collect(), wanted);
 }
