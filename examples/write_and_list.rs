@@ -1,35 +1,52 @@
-//! A master reads register 44 (hexadecimal) of the only slave of a chain and then writes 5B to it; what was recorded is read back as a
-//! list and printed, opened again at the frame of the write, and carried to text and back. One text and two calls are refused. Then
-//! channel places in a chain of three. Every answer is asserted.
+//! A master chooses bank 3 of the only slave of a chain, which has four, and then writes 5B to address 10 (both hexadecimal) of that bank.
+//! What was recorded is read back as a list and printed; opened late, at the frame of that write, it no longer tells the bank. The rows
+//! are carried to text and back. One text and three calls are refused. Then channel places in a chain of three. Every answer is asserted.
 
 #[path = "../include/biss.rs"]
 #[allow(dead_code)]
 mod biss;
-use biss::{ChannelPlace, Refusal, ENTRY_BYTES, LIST_HEADER_BYTES, LIST_LINE_BYTES, REST};
+use biss::{ChannelPlace, Entry, Refusal, BANK_REGISTER, NO_BANK_YET};
+use biss::{ENTRY_BYTES, LIST_HEADER_BYTES, LIST_LINE_BYTES, REST};
+
+/// The slave's banks, one after the other, and then its fixed registers.
+const BANKS: usize = 4;
+const REGISTERS: usize = 64 * (BANKS + 1);
+
+fn print_list(list: &[u8]) {
+    let mut text = vec![0; LIST_HEADER_BYTES + LIST_LINE_BYTES * (list.len() / ENTRY_BYTES)];
+    let bytes = biss::list_to_text(list, &mut text).expect("a list that was read can be printed");
+    print!("{}", String::from_utf8_lossy(&text[..bytes]));
+}
 
 fn main() {
     let mut row = [0; 4096];
-    let read = biss::build_read(0, 0x44, 1, 0, &mut row).expect("the read is built");
-    let behind = &mut row[read..];
+    let choice =
+        biss::build_write(0, BANK_REGISTER, &[3], 0, &mut row).expect("the choice is built");
+    let behind = &mut row[choice..];
     let columns =
-        read + biss::build_write(0, 0x44, &[0x5B], 0, behind).expect("the write is built");
+        choice + biss::build_write(0, 0x10, &[0x5B], 0, behind).expect("the write is built");
     let cdm = &row[..columns];
-    let (mut cds, mut registers, mut rights) = (vec![0; columns], [0; 128], [3; 128]);
-    assert_eq!(biss::run(1, &rights, &[0], &mut registers, cdm, &mut cds), Ok(columns));
-    assert_eq!(registers[0x44], 0x5B);
+    let (mut cds, mut registers, mut rights) = (vec![0; columns], [0; REGISTERS], [3; REGISTERS]);
+    let banks = [BANKS as u8];
+    assert_eq!(biss::run(1, &banks, &rights, &[0], &mut registers, cdm, &mut cds), Ok(columns));
+    assert_eq!((registers[64 * 3 + 0x10], registers[64 * BANKS]), (0x5B, 3));
 
     let mut list = [0; 5 * ENTRY_BYTES];
     assert_eq!(biss::read(cdm, &cds, 0, &mut list), Ok(5));
     let written = biss::entries(&list).last().expect("five entries");
-    assert_eq!((written.kind, written.address, written.value), (11, 0x44, 0x5B));
-    let mut text = [0; LIST_HEADER_BYTES + 5 * LIST_LINE_BYTES];
-    let bytes = biss::list_to_text(&list, &mut text).expect("a list that was read can be printed");
-    print!("{}", String::from_utf8_lossy(&text[..bytes]));
-    let (mut again, opening) = ([0; 2 * ENTRY_BYTES], written.start - REST);
-    assert_eq!(biss::read(cdm, &cds, opening, &mut again), Ok(2));
-    assert_eq!(biss::entries(&again).last(), Some(written));
-    println!("written in column {}; opened again at {opening}: the same entry", written.column);
-    assert_eq!(biss::read(cdm, &cds, opening + 1, &mut again), Ok(0));
+    let Entry { kind, address, bank, value, .. } = written;
+    assert_eq!((kind, address, bank, value), (11, 0x10, 3, 0x5B));
+    print_list(&list);
+    let (mut late, opening) = ([0; 2 * ENTRY_BYTES], written.start - REST);
+    assert_eq!(biss::read(cdm, &cds, opening, &mut late), Ok(2));
+    let again = Entry { bank: NO_BANK_YET, ..written };
+    assert_eq!(biss::entries(&late).last(), Some(again));
+    let column = written.column;
+    println!(
+        "written in column {column}; opened again at {opening}, behind the choice of the bank:"
+    );
+    print_list(&late);
+    assert_eq!(biss::read(cdm, &cds, opening + 1, &mut late), Ok(0));
 
     let mut text = vec![0; 8 + 4 * columns];
     assert_eq!(biss::rows_to_text(cdm, &cds, &mut text), Ok(text.len()));
@@ -45,13 +62,16 @@ fn main() {
     assert_eq!(biss::text_to_rows(&text, &mut cdm_back, &mut cds_back), Ok(columns));
     assert_eq!((cdm, &cds), (&cdm_back[..], &cds_back));
 
-    let refused = biss::run(1, &rights, &[0, 0], &mut registers, cdm, &mut cds);
+    let refused = biss::run(1, &banks, &rights, &[0, 0], &mut registers, cdm, &mut cds);
     assert_eq!(refused, Err(Refusal::Number(18)));
     println!("two waits for one slave: refusal 18");
-    rights[127] = 4;
-    let refused = biss::run(1, &rights, &[0, 0], &mut registers, cdm, &mut cds);
+    rights[REGISTERS - 1] = 4;
+    let refused = biss::run(1, &banks, &rights, &[0, 0], &mut registers, cdm, &mut cds);
     assert_eq!(refused, Err(Refusal::Number(4)));
     println!("a right above 3: refusal 4");
+    let refused = biss::run(1, &[9], &rights, &[0, 0], &mut registers, cdm, &mut cds);
+    assert_eq!(refused, Err(Refusal::Number(19)));
+    println!("nine banks: refusal 19");
 
     assert_eq!(biss::channel_of(0, 3), Ok(Some(ChannelPlace(3))));
     assert_eq!(biss::channel_of(3, 3), Ok(None));
