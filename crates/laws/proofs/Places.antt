@@ -55,6 +55,14 @@ module _ {A : Type 0} where
   set-here (x ∷ l) (y ∷ l′) zero v d n = refl
   set-here (x ∷ l) (y ∷ l′) (suc i) v d n = set-here l l′ i v d (suc-inj n)
 
+  -- What holds of the one put and of the one that stood at a place holds of the one that stands there then.
+  pub set-keeps : (Q : A → Type 0) (l : List A) (i j : ℕ) (v d : A) → Q v → Q (getD l j d) → Q (getD (set l i v) j d)
+  set-keeps Q [] i j v d h b = b
+  set-keeps Q (x ∷ l) zero zero v d h b = h
+  set-keeps Q (x ∷ l) zero (suc j) v d h b = b
+  set-keeps Q (x ∷ l) (suc i) zero v d h b = b
+  set-keeps Q (x ∷ l) (suc i) (suc j) v d h b = set-keeps Q l i j v d h b
+
   -- Where there is a value no default matters.
   pub any-default : (l : List A) (i : ℕ) (d d′ : A) → i < length l → getD l i d ≡ getD l i d′
   any-default [] i d d′ h = absurd (omega arith)

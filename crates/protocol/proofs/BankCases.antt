@@ -141,3 +141,18 @@ samples =
 samples-hold : map listed samples ≡ map (λ s. s .shows) samples
 unfolding samples sample listed line lineOf rowOf locked ended choose look filled slaveOf shut flips flip rowFor frameOf byteColumns word check remainder divide divideBit bit bits push fits byteOf header chosen placeOf allows holds stored delayBy delay judge timer Slave.lock Slave.called Slave.more Slave.speak Slave.step Chain.pass Chain.answers Chain.switchedOn Chain.answersFrom Reader.seen Reader.locked Reader.headed Reader.asked Reader.look Reader.step Reader.columns Reader.entries Reader.entriesFrom Reader.listFrom banked learnt bankOf
 samples-hold = refl
+
+-- Two choices, opened late: a reader let in behind the first knows no bank until its own list has shown the second.
+late : (k : ℕ) → List Line
+late k =
+    let row : List Bool = rowOf (choose 0 1 ∷ look 0 5 ∷ choose 0 0 ∷ look 0 5 ∷ []) in
+    map lineOf (Reader.listFrom k (Reader.columns row (Chain.answersFrom (slaveOf 2 0 3 ∷ []) row)))
+
+second : List Line
+second = locked 1 ∷ line Kind.written 0 64 0 0 ∷ ended ∷ locked 1 ∷ line Kind.read 0 5 0 0x10 ∷ []
+
+late-hold : map late (0 ∷ 46 ∷ 47 ∷ [])
+    ≡ (locked 1 ∷ line Kind.written 0 64 0 1 ∷ ended ∷ locked 1 ∷ line Kind.read 0 5 1 0x11 ∷ ended ∷ second)
+    ∷ (locked 1 ∷ line Kind.read 0 5 255 0x11 ∷ ended ∷ second) ∷ second ∷ []
+unfolding late second line lineOf rowOf locked ended choose look filled slaveOf rowFor frameOf byteColumns word check remainder divide divideBit bit bits push fits byteOf header chosen placeOf allows holds stored delayBy delay judge timer Slave.lock Slave.called Slave.more Slave.speak Slave.step Chain.pass Chain.answers Chain.switchedOn Chain.answersFrom Reader.seen Reader.locked Reader.headed Reader.asked Reader.look Reader.step Reader.columns Reader.entries Reader.entriesFrom Reader.listFrom banked learnt bankOf
+late-hold = refl

@@ -17,6 +17,7 @@ use Rattle.protocol.specs.Memory.{Memory, chosen, placeOf, place, at, pu
 use Rattle.protocol.specs.Slave.{more}
 use Rattle.protocol.specs.Replay.{storedAt}
 use Rattle.laws.proofs.Every.{Every, tested}
+use Rattle.laws.proofs.Places.{set-keeps}
 
 -- Every register of a memory is a byte, wherever it lies ..
 abbrev pub AllBytes : Memory → Type 0
@@ -44,20 +45,13 @@ stored-set (l ∷ ks) zero address value k e = rw (Option·some-injective l k e)
 stored-set (l ∷ ks) (suc id) address value k e = ap (λ (v : List Memory). l ∷ v) (stored-set ks id address value k e)
 
 -- A byte stored leaves bytes.
-below-set : (n : ℕ) (l : List ℕ) (i j v : ℕ) → v < n → getD l j 0 < n → getD (set l i v) j 0 < n
-below-set n [] i j v h b = b
-below-set n (x ∷ l) zero zero v h b = h
-below-set n (x ∷ l) zero (suc j) v h b = b
-below-set n (x ∷ l) (suc i) zero v h b = b
-below-set n (x ∷ l) (suc i) (suc j) v h b = below-set n l i j v h b
-
 all-bytes-stored : (k : Memory) (address value : ℕ) → value < 2 ^ dataBits → AllBytes k → AllBytes (stored k address value)
 unfolding stored
 all-bytes-stored k address value h bs = go (place k address)
   where
     go : (p : Option ℕ) → AllBytes (changed k p value)
     go none j = bs j
-    go (some i) j = below-set (2 ^ dataBits) (k .registers) i j value h (bs j)
+    go (some i) j = set-keeps (λ n. n < 2 ^ dataBits) (k .registers) i j value 0 h (bs j)
 
 pub bytes-stored : (ks : List Memory) (id address value : ℕ) → value < 2 ^ dataBits → Bytes ks → Bytes (storedAt ks id address value)
 unfolding storedAt

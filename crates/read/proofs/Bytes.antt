@@ -7,7 +7,7 @@ use native.Mathlib.Nat.{le-refl}
 use native.Mathlib.Omega.{arith}
 use borrow.Author.Tests.{ltb-true}
 use lib.Dec.{ltb}
-use lib.ListN.{length, getD, set, replicate, length-drop}
+use lib.ListN.{length, getD, replicate, length-drop}
 use Rattle.protocol.specs.Limits.{headerColumns, idCount, lockFirst, lockLast, addressCount, byteLimit}
 use Rattle.protocol.specs.Bits.{num, bit, push, rowOf}
 use Rattle.protocol.specs.Rest.{Timed, powerOn}
@@ -17,6 +17,7 @@ use Rattle.protocol.specs.Entries.{Kind, table, Event, event, Place, opened, on
 use Rattle.protocol.specs.Banks.{Banked, noBank, unknown, choosesBank, learnt, namesBank, bankOf, banked}
 use Rattle.protocol.specs.Reader.{Locks, ones, upto, mixed, seen, seenAt, Phase, deaf, locks, head, askR, askW, byteS, reads, writes, askP, Look, locked, headed, oddAnswer, asked, readKind, writeKind, look, step, Column, col, columns, entries, entriesFrom, listFrom}
 use Rattle.laws.proofs.Every.{Every, IfAny, either, tested, both}
+use Rattle.laws.proofs.Places.{set-keeps}
 use Rattle.protocol.proofs.Machine.{At, keeps, every-note}
 use Rattle.read.specs.Read.{listOf}
 use Rattle.read.proofs.Left.{start-early, length-columns}
@@ -171,38 +172,33 @@ shown-entries s p (col m x ∷ cs) limit h early l =
     here none b = tt
     here (some e) b = (omega arith, early, b)
 
--- .. and with it: what is known of the banks is bytes, and one more leaves bytes.
-byte-known : (known : List ℕ) (id : ℕ) → Every Byte known → Byte (getD known id noBank)
-byte-known [] id h = omega arith
-byte-known (b ∷ known) zero h = h .0
-byte-known (b ∷ known) (suc id) h = byte-known known id (h .1)
+-- .. and with it: what is known of each bank is a byte, at first and behind every entry.
+abbrev Known : List ℕ → Type 0
+Known known = (id : ℕ) → Byte (getD known id noBank)
 
-all-bytes : (n : ℕ) → Every Byte (replicate n noBank)
-all-bytes zero = tt
-all-bytes (suc n) = (omega arith, all-bytes n)
-
-bytes-set : (known : List ℕ) (id value : ℕ) → Byte value → Every Byte known → Every Byte (set known id value)
-bytes-set [] id value v h = tt
-bytes-set (b ∷ known) zero value v h = (v, h .1)
-bytes-set (b ∷ known) (suc id) value v h = (h .0, bytes-set known id value v (h .1))
+none-known : (n : ℕ) → Known (replicate n noBank)
+none-known zero id = omega arith
+none-known (suc n) zero = omega arith
+none-known (suc n) (suc id) = none-known n id
 
 abbrev pub Small : (limit : ℕ) → Banked → Type 0
 Small limit e = Shown limit (e .entry) × Byte (e .bank)
 
-small-banked : (limit : ℕ) (known : List ℕ) (es : List Entry) → Every Byte known → Every (Shown limit) es
+small-banked : (limit : ℕ) (known : List ℕ) (es : List Entry) → Known known → Every (Shown limit) es
     → Every (Small limit) (banked known es)
 unfolding banked bankOf learnt
 small-banked limit known [] bytes h = tt
 small-banked limit known (e ∷ es) bytes h =
-    let more : Every Byte (learnt known (e .event)) =
-    either (Every Byte) (choosesBank (e .event)) (bytes-set known (e .event .id) (e .event .value) (h .0 .2 .2) bytes) bytes in (
-      (h .0, either Byte (namesBank (e .event)) (byte-known known (e .event .id) bytes) (omega arith)),
+    let more : Known (learnt known (e .event))
+    = either Known (choosesBank (e .event))
+    (λ id. set-keeps Byte known (e .event .id) id (e .event .value) noBank (h .0 .2 .2) (bytes id)) bytes in (
+      (h .0, either Byte (namesBank (e .event)) (bytes (e .event .id)) (omega arith)),
       small-banked limit (learnt known (e .event)) es more (h .1),
     )
 
 pub small-list : (k : ℕ) (cdm cds : List ℕ) → k ≤ length cdm → Every (Small (length cdm)) (listOf k cdm cds)
 unfolding listOf listFrom entriesFrom
 small-list k cdm cds h =
-    small-banked (length cdm) unknown _ (all-bytes idCount)
+    small-banked (length cdm) unknown _ (none-known idCount)
     (shown-entries powerOn (opened k) _ (length cdm) tt (le-refl k)
     (omega (arith, length-drop k (columns (rowOf cdm) (rowOf cds)), length-columns cdm cds)))
