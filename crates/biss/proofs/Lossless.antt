@@ -7,34 +7,40 @@ use borrow.Author.Tests.{lt-ltb, le-ltb, ltb-true, ltb-false}
 use lib.Dec.{ltb}
 use Rattle.protocol.specs.Limits.{slaveLimit, idCount}
 use Rattle.laws.proofs.Every.{tested}
-use Rattle.job.specs.Refusals.{alone, on-line, refusal, Ending, made, refused, told}
+use Rattle.job.specs.Refusals.{alone, on-line, of-job, refusal, Ending, made, refused, told}
 use Rattle.job.specs.declared.Outcome.{Outcome}
 use Rattle.channels.specs.Channel.{channelOf}
 use Rattle.channels.specs.declared.SlaveId.{SlaveId}
 use Rattle.channels.specs.declared.Channel.{Channel}
 use Rattle.channels.specs.declared.Channel.the-variants as Channels
-use Rattle.biss.specs.Coded.{code, decodeDetail, decode, Fits, channelCode, Coded}
+use Rattle.biss.specs.Coded.{code, decodeLine, decodeDetail, decode, Fits, channelCode, Coded}
 
 -- A line that is told counts from 1, so that it is read as one.
-line-read : (line byte : ℕ) → 1 ≤ line → decodeDetail line byte ≡ on-line line byte
+line-read : (line byte : ℕ) → 1 ≤ line → decodeLine line byte ≡ on-line line byte
 line-read zero byte h = absurd (omega arith)
 line-read (suc line) byte h = refl
 
 pub decode-code : (e : Ending) → Fits e → decode (code e) ≡ e
-unfolding code decode
+unfolding code decode decodeDetail
 decode-code (made n) h = rw (lt-ltb n (2 ^ 63) h)
 decode-code (refused (refusal k alone)) h =
     let n : ℕ = 2 ^ 63 + k in
     let line : n / 2 ^ 9 % 2 ^ 53 ≡ 0 = omega arith in
     let number : n % 2 ^ 6 ≡ k = omega arith in
-    rw (le-ltb n (2 ^ 63) (omega arith), line, number)
+    rw (le-ltb n (2 ^ 63) (omega arith), lt-ltb n (2 ^ 63 + 2 ^ 62) (omega arith), line, number)
 decode-code (refused (refusal k (on-line l b))) h =
     let whole : min l (2 ^ 53 - 1) ≡ l = omega arith in
     let n : ℕ = 2 ^ 63 + 2 ^ 9 * l + 2 ^ 6 * b + k in
     let line : n / 2 ^ 9 % 2 ^ 53 ≡ l = omega arith in
     let byte : n / 2 ^ 6 % 2 ^ 3 ≡ b = omega arith in
     let number : n % 2 ^ 6 ≡ k = omega arith in
-    rw (whole, le-ltb n (2 ^ 63) (omega arith), line, byte, number, line-read l b (h .1))
+    rw (whole, le-ltb n (2 ^ 63) (omega arith), lt-ltb n (2 ^ 63 + 2 ^ 62) (omega arith), line, byte, number, line-read l b (h .1))
+decode-code (refused (refusal k (of-job i))) h =
+    let whole : min i (2 ^ 55 - 1) ≡ i = omega arith in
+    let n : ℕ = 2 ^ 63 + 2 ^ 62 + 2 ^ 6 * i + k in
+    let job : n / 2 ^ 6 % 2 ^ 56 ≡ i = omega arith in
+    let number : n % 2 ^ 6 ≡ k = omega arith in
+    rw (whole, le-ltb n (2 ^ 63) (omega arith), le-ltb n (2 ^ 63 + 2 ^ 62) (omega arith), job, number)
 
 -- So two ends of one number are the same, and what a call returns is read as the end that its job promises.
 code-lossless : (a b : Ending) → Fits a → Fits b → code a ≡ code b → a ≡ b

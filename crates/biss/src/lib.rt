@@ -1,6 +1,7 @@
 // The jobs as C and Rust call them: numbers, and a slice as a pointer and a length. Each returns one number: how many columns, bytes
 // or entries were made, or 2 ^ 63 and the number of the refusal; for what is wrong with a text also its line, times 512, and its byte in
-// that line, times 64. Beside them the channel place of a slave.
+// that line, times 64; for what is wrong with a job of a table also 2 ^ 62 and the job, times 64. Beside them the channel place of a
+// slave.
 ghost use mathlib.Core.Path.{_≡_};
 ghost use Prim.Native.Nat.{_≤_, min};
 ghost use Rattle.protocol.specs.Building.{Request};
@@ -9,6 +10,7 @@ ghost use Rattle.job.specs.Refusals.{refusal, refused, detail, told};
 ghost use Rattle.build.specs.Build.{Built};
 ghost use Rattle.run.specs.Run.{Ran};
 ghost use Rattle.read.specs.Read.{Listed};
+ghost use Rattle.read_all.specs.ReadAll.{ListedAll};
 ghost use Rattle.rows_text.specs.RowsText.{RowsPrinted, RowsTaken};
 ghost use Rattle.list_text.specs.Lists.{ListPrinted};
 ghost use Rattle.biss.specs.Coded.{code, channelCode, Coded};
@@ -16,6 +18,7 @@ use channels::Channel;
 use channels::SlaveId;
 use job::Detail;
 use job::Outcome;
+use read_all::Job;
 
 // What a refusal's number stands on, 2 ^ 63: no count is as high.
 const REFUSED: u64 = 9223372036854775808;
@@ -25,8 +28,17 @@ const ONE_LINE: u64 = 512;
 
 const ONE_BYTE: u64 = 64;
 
+// What a refusal of a job stands on, 2 ^ 63 + 2 ^ 62: no line is as high.
+const JOB_REFUSED: u64 = 13835058055282163712;
+
+// What its job is counted in: below it the number has room.
+const ONE_JOB: u64 = 64;
+
 // The highest line that has room, 2 ^ 53 - 1: a text of so many lines has 2 ^ 55 bytes.
 const LAST_LINE: u64 = 9007199254740991;
+
+// The highest job that has room beside any number of a byte, 2 ^ 55 - 1: a table of so many jobs has 2 ^ 59 bytes.
+const LAST_JOB: u64 = 36028797018963967;
 
 // The master row of a read of `count` registers of the slave `id`, whose waiting number is `wait`, from `address` on.
 #[no_mangle]
@@ -88,6 +100,24 @@ pub extern "C" fn biss_read(cdm: &[u8], cds: &[u8], opening: usize, out: &mut [u
     coded(read::read(cdm, cds, opening, out))
 }
 
+// The entries that many stretches of one recording show, job by job of a lent table.
+#[no_mangle]
+pub extern "C" fn biss_read_all(
+    cdm: &[u8],
+    cds: &[u8],
+    jobs: &[Job],
+    out: &mut [u8],
+    counts: &mut [usize],
+) -> u64
+    ensures { λ r. ⌜ Coded r (λ o. ListedAll (now (cdm .entry)) (now (cds .entry)) (now (jobs .entry)) (now (out .entry)) (now (counts .entry)) o (now (out .exit)) (now (counts .exit))) ⌝ }
+{
+    let mut state = read_all::begin(cdm.len(), cds.len(), jobs.len(), counts.len());
+    while state.pass != 0 {
+        state = read_all::turn(cdm, cds, out, counts, state, jobs[state.at]);
+    }
+    coded(state.outcome)
+}
+
 // Two rows as text.
 #[no_mangle]
 pub extern "C" fn biss_rows_to_text(cdm: &[u8], cds: &[u8], out: &mut [u8]) -> u64
@@ -139,6 +169,9 @@ fn coded_refusal(number: u8, beside: Detail) -> u64
                 + ONE_LINE * least(line as u64, LAST_LINE)
                 + ONE_BYTE * byte as u64
                 + number as u64
+        }
+        Detail::OfJob(job) => {
+            JOB_REFUSED + ONE_JOB * least(job as u64, LAST_JOB) + number as u64
         }
     }
 }

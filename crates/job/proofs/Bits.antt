@@ -7,7 +7,7 @@ use native.Mathlib.Numerals.{add-one}
 use native.Mathlib.Omega.{arith}
 use borrow.Author.Tests.{leb-true}
 use lib.Dec.{leb}
-use lib.ListN.{length, drop, getD, drop-of-length-le}
+use lib.ListN.{length, take, drop, getD, drop-of-length-le}
 use lib.Seq.{drop-cons}
 use Rattle.protocol.specs.Bits.{num}
 use Rattle.protocol.proofs.Text.{Bits}
@@ -33,7 +33,14 @@ byte-at limit [] i e = omega arith
 byte-at limit (b ∷ bytes) zero e = leb-true b limit (both (leb b limit) (noneAbove limit bytes) e .0)
 byte-at limit (b ∷ bytes) (suc i) e = byte-at limit bytes i (both (leb b limit) (noneAbove limit bytes) e .1)
 
--- .. so a row of bits is one in the words of protocol's texts; and the bytes of bits are such a row.
+-- .. nor in a front part; so a row of bits is one in the words of protocol's texts; and the bytes of bits are such a row.
+pub bits-take : (n : ℕ) (row : List ℕ) → areBits row ≡ true → areBits (take n row) ≡ true
+unfolding areBits noneAbove
+bits-take zero row e = refl
+bits-take (suc n) [] e = refl
+bits-take (suc n) (b ∷ row) e =
+    let parts = both (leb b 1) (noneAbove 1 row) e in rw (parts .0) (bits-take n row (parts .1))
+
 pub all-bits : (row : List ℕ) → areBits row ≡ true → Bits row
 unfolding areBits noneAbove
 all-bits [] e = tt

@@ -15,7 +15,7 @@ use Rattle.job.specs.Refusals.{alone, Refusal, refusal, Rule, when, foun
 use Rattle.job.specs.declared.Outcome.{Outcome}
 use Rattle.job.specs.declared.Outcome.the-variants.{Made, Refused}
 use Rattle.job.specs.declared.Detail as Code
-use Rattle.job.specs.declared.Detail.the-variants.{Alone, OnLine}
+use Rattle.job.specs.declared.Detail.the-variants.{Alone, OnLine, OfJob}
 use Rattle.job.proofs.Laid.{sets-first}
 
 -- A rule holds and gives a refusal ..
@@ -158,8 +158,13 @@ module _ (rules more : List Rule) where
 pub one-detail : (a b : Code.Detail) → detail a ≡ detail b → a ≡ b
 one-detail Alone Alone e = refl
 one-detail Alone (OnLine l b) e = cc
+one-detail Alone (OfJob i) e = cc
 one-detail (OnLine l b) Alone e = cc
 one-detail (OnLine l b) (OnLine k c) e = cc
+one-detail (OnLine l b) (OfJob i) e = cc
+one-detail (OfJob i) Alone e = cc
+one-detail (OfJob i) (OnLine l b) e = cc
+one-detail (OfJob i) (OfJob j) e = cc
 
 one-told : (a b : Outcome) → told a ≡ told b → a ≡ b
 one-told (Made n) (Made m) e = cc

@@ -10,13 +10,14 @@ use lib.ListN.{length, drop}
 use Rattle.job.specs.declared.Outcome.{Outcome}
 use Rattle.job.specs.declared.Outcome.the-variants.{Made, Refused}
 use Rattle.job.specs.declared.Detail as Code
-use Rattle.job.specs.declared.Detail.the-variants.{Alone, OnLine}
+use Rattle.job.specs.declared.Detail.the-variants.{Alone, OnLine, OfJob}
 
 -- What is told beside a refusal's number: nothing; or a line, "counted from 1", and (request 01) "the place in the line as well, counted in
--- bytes from 0".
+-- bytes from 0"; or (request 06) "the job's number", the table's first being 0.
 pub data Detail : Type 0 where
   alone : Detail
   on-line : (line byte : ℕ) → Detail
+  of-job : (job : ℕ) → Detail
 
 -- "A refusal returns its number", and what is told beside it.
 pub data Refusal : Type 0 where
@@ -53,6 +54,7 @@ ending (some r) count = refused r
 abbrev pub detail : Code.Detail → Detail
 detail Alone = alone
 detail (OnLine line byte) = on-line line byte
+detail (OfJob job) = of-job job
 
 -- .. and the end.
 abbrev pub told : Outcome → Ending

@@ -39,6 +39,8 @@ pub enum Detail {
     Alone,
     // A line of a text, counted from 1, and a byte of that line, counted from 0.
     OnLine(usize, u8),
+    // A job of a table, counted from 0.
+    OfJob(usize),
 }
 
 // 5, 6 or 7 for two rows, or 0 where they are refused by none of them.

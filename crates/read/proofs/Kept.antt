@@ -2,6 +2,7 @@
 use mathlib.Core.Path.{_≡_, refl, ap, _∙_}
 use mathlib.Core.List.{List, [], _∷_, _++_, append-assoc, append-nil}
 use Prim.Native.Nat.{ℕ, _+_, _-_, _*_, _≤_}
+use native.Mathlib.Nat.{add-zero}
 use native.Mathlib.Omega.{arith}
 use borrow.Author.Tests.{lt-ltb, le-ltb}
 use lib.Dec.{ltb}
@@ -60,6 +61,14 @@ kept-behind (d ∷ es) n front out e h =
 pub kept-whole : (es : List Banked) (out : List ℕ) → length es ≤ roomOf out
     → keptAll out 0 es ≡ listBytes current es ++ drop (length (listBytes current es)) out
 kept-whole es out h = kept-behind es 0 [] out refl (omega arith)
+
+-- Entries behind others.
+pub kept-append : (es others : List Banked) (out : List ℕ) (n : ℕ) → keptAll out n (es ++ others) ≡ keptAll (keptAll out n es) (n + length es) others
+unfolding keptAll
+kept-append [] others out n = rw add-zero
+kept-append (e ∷ es) others out n =
+    kept-append es others (kept out n (bytesOf current e)) (n + 1)
+    ∙ ap (λ (m : ℕ). keptAll (keptAll (kept out n (bytesOf current e)) (n + 1) es) m others) (omega arith)
 
 -- Without room the buffer stays as it is.
 pub kept-empty : (n : ℕ) (es : List Banked) → keptAll [] n es ≡ []

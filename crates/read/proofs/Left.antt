@@ -4,7 +4,7 @@ use mathlib.Core.Bool.{Bool, true}
 use mathlib.Core.List.{List, [], _∷_}
 use mathlib.Core.Option.{Option, none, some, Option·none-ne-some}
 use Prim.Native.Nat.{ℕ, zero, suc, _+_, _-_, _≤_, _<_}
-use native.Mathlib.Nat.{le-refl, le-of-suc-le-suc, not-suc-le-zero, add-zero, zero-add}
+use native.Mathlib.Nat.{le-refl, le-of-suc-le-suc, not-suc-le-zero, add-zero}
 use native.Mathlib.Numerals.{add-one}
 use native.Mathlib.Omega.{arith}
 use lib.ListN.{length, take, drop, getD, drop-of-length-le, length-drop}
@@ -209,10 +209,10 @@ behind k row = take (length row - k) (drop k row)
 behind-is : (k : ℕ) (row : List ℕ) → behind k row ≡ drop k row
 behind-is k row = take-all (length row - k) (drop k row) (omega (arith, length-drop k row))
 
-pub from-opening : (cdm cds : List ℕ) (k : ℕ) (s : Timed Phase) (p : protocol.Place) (out : List ℕ) (r : Reached) → s ≡ powerOn → p ≡ opened k
-    → r ≡ reached s p unknown 0 out (columns (rowOf (behind k cdm)) (rowOf (behind k cds)))
-    → (r .count ≡ length (listOf k cdm cds)) × (r .buffer ≡ keptAll out 0 (listOf k cdm cds))
+pub from-opening : (cdm cds : List ℕ) (k n : ℕ) (s : Timed Phase) (p : protocol.Place) (out : List ℕ) (r : Reached) → s ≡ powerOn
+    → p ≡ opened k → r ≡ reached s p unknown n out (columns (rowOf (behind k cdm)) (rowOf (behind k cds)))
+    → (r .count ≡ n + length (listOf k cdm cds)) × (r .buffer ≡ keptAll out n (listOf k cdm cds))
 unfolding reached listOf listFrom entriesFrom
-from-opening cdm cds k s p out r e h q =
+from-opening cdm cds k n s p out r e h q =
     let all = rw (e, h, behind-is k cdm, behind-is k cds, columns-from k cdm cds) at q in
-    (rw length-banked (ap (λ (v : Reached). v .count) all ∙ zero-add _), ap (λ (v : Reached). v .buffer) all)
+    (rw length-banked (ap (λ (v : Reached). v .count) all), ap (λ (v : Reached). v .buffer) all)

@@ -2,7 +2,7 @@
 // returns Made with the number of entries, or Refused with 5 to 9 and the lent buffer as it was.
 ghost use mathlib.Core.Path.{_≡_};
 ghost use mathlib.Core.Bool.{true};
-ghost use Prim.Native.Nat.{_+_, _≤_};
+ghost use Prim.Native.Nat.{_+_, _^_, _≤_, _<_};
 ghost use lib.Dec.{leb};
 ghost use lib.ListN.{length, getD, set};
 ghost use lib.Seq.{sets};
@@ -53,7 +53,7 @@ pub fn read(cdm: &[u8], cds: &[u8], opening: usize, out: &mut [u8]) -> Outcome
         return Outcome::Refused(why, Detail::Alone);
     }
     if has_room(cdm, cds, opening, out) {
-        let n = scan(cdm, cds, opening, out);
+        let n = scan(cdm, cds, opening, 0, out);
         Outcome::Made(n)
     } else {
         Outcome::Refused(9, Detail::Alone)
@@ -61,7 +61,7 @@ pub fn read(cdm: &[u8], cds: &[u8], opening: usize, out: &mut [u8]) -> Outcome
 }
 
 // 5, 6, 7 or 8, or 0 where the rows and the opening column are refused by none of them.
-fn rows_refusal(cdm: &[u8], cds: &[u8], opening: usize) -> u8
+pub fn rows_refusal(cdm: &[u8], cds: &[u8], opening: usize) -> u8
     ensures { λ r. ⌜ given r ≡ first (rowsRefusals (now (cdm .entry)) (now (cds .entry)) opening) ⌝ }
 {
     let why = job::wrong_rows(cdm, cds);
@@ -86,23 +86,24 @@ fn has_room(cdm: &[u8], cds: &[u8], opening: usize, out: &mut [u8]) -> bool
 }
 
 // How many entries the rows show: a scan with no room.
-fn count(cdm: &[u8], cds: &[u8], opening: usize, out: &mut [u8]) -> usize
+pub fn count(cdm: &[u8], cds: &[u8], opening: usize, out: &mut [u8]) -> usize
     requires { ⌜ Rows (now cdm) (now cds) opening ⌝ }
     ensures { λ r. ⌜ (r ≡ length (listOf opening (now (cdm .entry)) (now (cds .entry)))) × (now (out .exit) ≡ now (out .entry)) ⌝ }
 {
-    scan(cdm, cds, opening, &mut out[..0])
+    scan(cdm, cds, opening, 0, &mut out[..0])
 }
 
-// From power-on at the opening column to the end of the rows; returns how many entries there are.
-fn scan(cdm: &[u8], cds: &[u8], opening: usize, out: &mut [u8]) -> usize
-    requires { ⌜ Rows (now cdm) (now cds) opening ⌝ }
-    ensures { λ r. ⌜ (r ≡ length (listOf opening (now (cdm .entry)) (now (cds .entry)))) × (now (out .exit) ≡ keptAll (now (out .entry)) 0 (listOf opening (now (cdm .entry)) (now (cds .entry)))) ⌝ }
+// From power-on at the opening column to the end of the rows, behind n entries that stand in the buffer already; returns how many
+// there are then.
+pub fn scan(cdm: &[u8], cds: &[u8], opening: usize, n: usize, out: &mut [u8]) -> usize
+    requires { ⌜ Rows (now cdm) (now cds) opening × (n + length (now cdm) < 2 ^ 64) ⌝ }
+    ensures { λ r. ⌜ (r ≡ n + length (listOf opening (now (cdm .entry)) (now (cds .entry)))) × (now (out .exit) ≡ keptAll (now (out .entry)) n (listOf opening (now (cdm .entry)) (now (cds .entry)))) ⌝ }
 {
     let reading = Reading {
         reader: Reader::new(),
         column: opening,
         known: [NO_BANK; IDS],
-        count: 0,
+        count: n,
     };
     let end = scan_on(reading, &cdm[opening..], &cds[opening..], out);
     end.count
@@ -111,7 +112,7 @@ fn scan(cdm: &[u8], cds: &[u8], opening: usize, out: &mut [u8]) -> usize
 // A reading goes on over a part of the rows, from any state: it puts the entries while there is room, and counts on past it. The one
 // caller of step, which is inlined here.
 fn scan_on(reading: Reading, cdm: &[u8], cds: &[u8], out: &mut [u8]) -> Reading
-    requires { ⌜ (length (now cdm) ≡ length (now cds)) × (reading .column + length (now cdm) ≤ columnLimit) × (reading .count ≤ reading .column) × (placeOf (reading .reader) (reading .column) .start ≤ reading .column) ⌝ }
+    requires { ⌜ (length (now cdm) ≡ length (now cds)) × (reading .column + length (now cdm) ≤ columnLimit) × (reading .count + length (now cdm) < 2 ^ 64) × (placeOf (reading .reader) (reading .column) .start ≤ reading .column) ⌝ }
     ensures { λ r. ⌜ reachedBy r (now (out .exit)) ≡ reached (stateOf (reading .reader)) (placeOf (reading .reader) (reading .column)) (reading .known) (reading .count) (now (out .entry)) (columns (rowOf (now (cdm .entry))) (rowOf (now (cds .entry)))) ⌝ }
 {
     let mut reader = reading.reader;
@@ -201,7 +202,7 @@ fn chosen(known: [u8; IDS], id: u64, bank: u8) -> [u8; IDS]
 
 // The entry after n others, where there is room for it; returns how many there are now.
 fn keep(out: &mut [u8], n: usize, place: Place, e: Event, bank: u8) -> usize
-    requires { ⌜ (n ≤ columnLimit) × inRow place × small e ⌝ }
+    requires { ⌜ (n + 1 < 2 ^ 64) × inRow place × small e ⌝ }
     ensures { λ r. ⌜ (r ≡ n + 1) × (now (out .exit) ≡ kept (now (out .entry)) n (bytesFor (placeIn place) e bank)) ⌝ }
 {
     let next = n + 1;

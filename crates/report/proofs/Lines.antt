@@ -9,7 +9,7 @@ use lib.ListN.{length, take, set}
 use lib.Seq.{take-at}
 use Rattle.protocol.specs.Entries.{bytes}
 use Rattle.protocol.specs.Text.{tab, feed, digitsIn, decimal}
-use Rattle.job.specs.Refusals.{Detail, alone, on-line, refusal, first}
+use Rattle.job.specs.Refusals.{Detail, alone, on-line, of-job, refusal, first}
 use Rattle.job.specs.declared.Outcome.the-variants.{Made, Refused}
 use Rattle.job.specs.declared.Detail.the-variants.{Alone}
 use Rattle.job.proofs.Laid.{sets-first}
@@ -35,8 +35,9 @@ pub laid-front : {vs l l′ : List ℕ} {n : ℕ} → Laid vs 0 l n l′ → len
 laid-front {vs} {l} {l′} {n} put h =
     rw (put .laid, sets-first l vs h) (take-at vs _ n (sym (put .behind ∙ zero-add (length vs))))
 
--- Worked out by hand: the line of a number alone, and of one with its line and byte.
-refusals-print : map refusedText (refusal 8 alone ∷ refusal 15 (on-line 812 1) ∷ []) ≡ bytes "refused\t8\n" ∷ bytes "refused\t15\t812\t1\n" ∷ []
+-- Worked out by hand: the line of a number alone, of one with its line and byte, and of one with its job.
+refusals-print : map refusedText (refusal 8 alone ∷ refusal 15 (on-line 812 1) ∷ refusal 20 (of-job 2999) ∷ [])
+    ≡ bytes "refused\t8\n" ∷ bytes "refused\t15\t812\t1\n" ∷ bytes "refused\t20\t2999\n" ∷ []
 unfolding refusedText fields decimal digitsIn
 refusals-print = refl
 
@@ -44,11 +45,15 @@ refusals-print = refl
 pub twenty : (n : ℕ) → n < 2 ^ 64 → length (decimal n) ≤ 20
 twenty n h = decimal-short 19 n (omega arith)
 
--- Two numbers, each behind its TAB.
+-- A number behind its TAB, and two, each behind its own.
+pub one-field : (number : ℕ) {l l′ : List ℕ} {at r : ℕ} → Laid (tab ∷ decimal number) at l r l′ → Laid (fields (number ∷ [])) at l r l′
+unfolding fields
+one-field number one = renamed (ap (λ (l : List ℕ). tab ∷ l) (sym (append-nil (decimal number)))) one
+
 pub two-fields : (line byte : ℕ) {l l′ l″ : List ℕ} {at p r : ℕ} → Laid (tab ∷ decimal line) at l p l′ → Laid (tab ∷ decimal byte) p l′ r l″
     → Laid (fields (line ∷ byte ∷ [])) at l r l″
 unfolding fields
-two-fields line byte one two = then one (renamed (ap (λ (l : List ℕ). tab ∷ l) (sym (append-nil (decimal byte)))) two)
+two-fields line byte one two = then one (one-field byte two)
 
 -- The line of a refusal, part by part: the word and the number, with room for what is told beside them, and then all of it.
 module _ (number : ℕ) (bits : number < 2 ^ 64) {l l′ l″ : List ℕ} {p q : ℕ} (one : Laid (bytes "refused") 0 l p l′)

@@ -8,7 +8,7 @@ use Rattle.protocol.specs.Limits.{columnLimit}
 use Rattle.protocol.specs.Entries.{bytes}
 use Rattle.protocol.specs.Text.{tab, feed, decimal, cdmOf, cdsOf, listText}
 use Rattle.protocol.specs.Fault.{Fault, textFault}
-use Rattle.job.specs.Refusals.{Detail, alone, on-line, Refusal, refusal, Rule, when, found, first}
+use Rattle.job.specs.Refusals.{Detail, alone, on-line, of-job, Refusal, refusal, Rule, when, found, first}
 use Rattle.job.specs.declared.Outcome.{Outcome}
 use Rattle.print.specs.Printed.{Printed}
 use Rattle.read.specs.Read.{listOf}
@@ -27,6 +27,7 @@ fields (n ∷ ns) = tab ∷ decimal n ++ fields ns
 abbrev pub values : Detail → List ℕ
 values alone = []
 values (on-line line byte) = line ∷ byte ∷ []
+values (of-job job) = job ∷ []
 
 -- "On a refusal it prints only `refused` TAB number .. LF", and behind the number whatever is told beside it.
 unfoldable pub refusedText : Refusal → List ℕ

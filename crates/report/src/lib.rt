@@ -86,6 +86,7 @@ fn put_beside(out: &mut [u8], at: usize, beside: Detail) -> usize
             let tab = print::put_number(out, at, line as u64);
             print::put_number(out, tab, byte as u64)
         }
+        Detail::OfJob(job) => print::put_number(out, at, job as u64),
     }
 }
 

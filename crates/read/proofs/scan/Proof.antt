@@ -15,7 +15,7 @@ returns : tie.Need-returns
 returns c =
     let a = c .before .before .before .before .before .before .before .before .before .before .args in
     let new = c .before .before .before .before .before .before .new in
-    from-opening (a .cdm .now) (a .cds .now) (a .opening) (stateOf (new .result)) (placeOf (new .result) (a .opening)) (a .out .now) _ (new .ensures) (rw (new .ensures)) (c .before .before .scan-on .ensures)
+    from-opening (a .cdm .now) (a .cds .now) (a .opening) (a .n) (stateOf (new .result)) (placeOf (new .result) (a .opening)) (a .out .now) _ (new .ensures) (rw (new .ensures)) (c .before .before .scan-on .ensures)
 
 pub scan-spec : {M : Type 1} → statement M
 scan-spec =

@@ -2,7 +2,7 @@
 -- from the start over all. Assumes nothing.
 use mathlib.Core.Logic.{⊎-elim}
 use mathlib.Core.Path.{_≡_, refl, sym, ap, _∙_}
-use Prim.Native.Nat.{_+_, _-_, _≤_}
+use Prim.Native.Nat.{_+_, _-_, _^_, _≤_, _<_}
 use native.Mathlib.Omega.{arith}
 use borrow.Author.Needs.{needs}
 use lib.ListN.{length, drop}
@@ -18,7 +18,7 @@ use Rattle.read.proofs.scan_on.Tie as tie
 
 abbrev Inv-loop : tie.InvT-loop
 Inv-loop cdm cds out₀ reader₀ column₀ known₀ n₀ i₀ out reader column known n i =
-    (i ≤ length cdm) × (column ≡ column₀ + i) × (n ≤ column) × (placeOf reader column .start ≤ column)
+    (i ≤ length cdm) × (column ≡ column₀ + i) × (n ≤ n₀ + i) × (placeOf reader column .start ≤ column)
     × (reached (stateOf reader) (placeOf reader column) known n out (drop i (columns (rowOf cdm) (rowOf cds)))
     ≡ reached (stateOf reader₀) (placeOf reader₀ column₀) known₀ n₀ out₀ (columns (rowOf cdm) (rowOf cds)))
 
@@ -46,7 +46,8 @@ keep-requires c κs =
     let early = early-enough (l .reader) (l .column) (stepped .step .ensures) (listing .if1 .taken) (l .inv .3) in
     let start = turning .before .before .before .before .before .before .before in
     let room : l .column ≤ columnLimit = omega (arith, start .pre .1, l .inv .1, turning .loop-test .taken) in
-    (omega (arith, room), (room, early), stepped .step .ensures .bytes)
+    let count : l .n + 1 < 2 ^ 64 = omega (arith, start .pre .2, l .inv .2, turning .loop-test .taken) in
+    (count, (room, early), stepped .step .ensures .bytes)
 
 loop-again : tie.Need-loop-again Inv-loop μ-loop
 loop-again c =

@@ -1,4 +1,4 @@
--- `report::put_beside` meets its contract: nothing, or two numbers. Assumes nothing.
+-- `report::put_beside` meets its contract: nothing, two numbers, or one. Assumes nothing.
 use mathlib.Core.Path.{refl}
 use Prim.Native.Nat.{_≤_}
 use borrow.Author.Needs.{needs}
@@ -6,7 +6,7 @@ use lib.ListN.{length}
 use Rattle.protocol.specs.Text.{decimal}
 use Rattle.print.proofs.Laid.{laid-length}
 use Rattle.report.specs.Report.{fields}
-use Rattle.report.proofs.Lines.{twenty, two-fields}
+use Rattle.report.proofs.Lines.{twenty, one-field, two-fields}
 use Rattle.report.proofs.put_beside.Statement.{statement}
 use Rattle.report.proofs.put_beside.Tie as tie
 
@@ -26,6 +26,12 @@ put-number-requires-2 c κs =
     let kept = laid-length (one .put-number .ensures) in
     search needs
 
+put-number-requires-3 : tie.Need-put-number-requires-3
+put-number-requires-3 c κs =
+    let job = c .before .before .beside2 .given .0 .0 in
+    let short : length (decimal job) ≤ 20 = twenty job (search needs) in
+    search needs
+
 returns : tie.Need-returns
 unfolding fields
 returns c = rw (c .enum-told .given .1) (record { behind = search needs; laid = refl }, search needs)
@@ -41,6 +47,14 @@ returns-2 c =
     let there′ = two .put-number2 .ensures .behind in
     rw (told .1) (two-fields (told .0 .0) (told .0 .1 .0) (one .put-number .ensures) (two .put-number2 .ensures), search needs)
 
+returns-3 : tie.Need-returns-3
+returns-3 c =
+    let one = c .before .before in
+    let told = one .before .before .before .beside2 .given in
+    let short : length (decimal (told .0 .0)) ≤ 20 = twenty (told .0 .0) (search needs) in
+    let there = one .put-number3 .ensures .behind in
+    rw (told .1) (one-field (told .0 .0) (one .put-number3 .ensures), search needs)
+
 pub put-beside-spec : {M : Type 1} → statement M
 put-beside-spec =
     tie.close
@@ -50,6 +64,10 @@ put-beside-spec =
     put-number-requires
     (λ c. search needs)
     put-number-requires-2
+    (λ c. search needs)
+    put-number-requires-3
     returns
     (λ c. search needs)
-    returns-2)
+    returns-2
+    (λ c. search needs)
+    returns-3)

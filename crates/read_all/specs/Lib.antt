@@ -1,0 +1,2 @@
+pub mod ReadAll
+pub mod Passes
