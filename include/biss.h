@@ -1,8 +1,8 @@
 /* The jobs of the library biss: build, run, read and carry (docs/ and README.md tell what they are).
  *
  * Every call judges all that it is given before it writes. It answers how many columns, bytes or entries it made; or, with the bit
- * BISS_REFUSED set, a refusal, and then no lent byte has changed. biss_is_refused, biss_refusal, biss_line and biss_byte below read an
- * answer. Of a job's refusals the first that holds is told, in the order that its call names:
+ * BISS_REFUSED set, a refusal, and then no lent byte has changed. biss_is_refused, biss_refusal, biss_line, biss_byte and biss_job below
+ * read an answer. Of its refusals the first that holds is told, in the order that the call names:
  *
  *    1  more than 16 slaves                           12  list length no multiple of 9, or a kind outside 1 to 16
  *    2  registers not 64 x (banks + 1) bytes a slave  13  a wrong byte in the header line
@@ -12,15 +12,19 @@
  *    6  two rows of different length                  17  the text ends inside a line
  *    7  a row byte that is not 0 or 1                 18  waits not one byte per slave
  *    8  opening column greater than the length        19  banks not one number of 1 to 8 per slave
- *    9  the result needs more room than was lent
+ *    9  the result needs more room than was lent      20  a stretch outside the rows
  *   10  id over 7, address over 127, CMD over 3, count 0 or over 64, or address + count over 128
+ *   32  counts not one per job
  *
  * 13 to 17 say what is wrong with a text at its first bad byte, 14 to 16 below the header line: they tell the line, counted from 1, and
  * the byte in that line, counted from 0. 17 tells the byte just past the text's end; an empty text is 13. A line is told whole below
  * 2^53, that is for every text of fewer than 2^55 bytes; for any beyond the highest line that has room is told. 11 is given no more.
  *
- * A buffer is a pointer and its length in bytes. It has to be as long as is said, and a buffer that a call writes must not overlap
- * another of the same call: this is all that a caller has to see to, for C cannot check it. A pointer of length 0 is not followed.
+ * 20, and of a table of jobs 5, 7 and 8 too, tell the job that has it, counted from 0, as it stands in the table: jobs[biss_job(answer)].
+ *
+ * A buffer is a pointer and its length in bytes; a table of jobs and its counts are told by how many there are. It has to be as long as is
+ * said, and a buffer that a call writes must not overlap another of the same call: this is all that a caller has to see to, for C cannot
+ * check it. A pointer of length 0 is not followed.
  * A row is one byte a column, 0 or 1; registers and rights are 64 x (banks + 1) bytes a slave, banks and waits one, the far slave first;
  * an entry is its kind, column, start, ID, address, bank and value: one byte each, column and start two, high byte first. Texts are not
  * ended by a zero byte.
@@ -40,14 +44,25 @@
 #include <stddef.h>
 #include <stdint.h>
 
-/* The bits of a refusal: 63 is BISS_REFUSED, 62 is kept free, 61 to 9 are the line, 8 to 6 the byte, 5 to 0 the number. */
+/* The bits of a refusal: 63 is BISS_REFUSED, 5 to 0 are the number. Where 62, BISS_OF_JOB, is set, 61 to 6 are the job; else 61 to 9 are
+ * the line and 8 to 6 the byte. */
 #define BISS_REFUSED (UINT64_C(1) << 63)
+#define BISS_OF_JOB (UINT64_C(1) << 62)
 
-/* Whether an answer is a refusal; of a refusal its number, and for 13 to 17 its line and its byte; 0 where there is none to tell. */
+/* Whether an answer is a refusal, and of a refusal whether it tells a job. */
 static inline int biss_is_refused(uint64_t answer) { return (answer & BISS_REFUSED) != 0; }
+static inline int biss_tells_job(uint64_t answer) { return biss_is_refused(answer) && (answer & BISS_OF_JOB) != 0; }
+
+/* Of a refusal its number, for 13 to 17 its line and its byte, and its job where biss_tells_job; 0 where there is none to tell. Lines count
+ * from 1, but jobs from 0: whether there is a job, biss_tells_job says alone. */
 static inline unsigned biss_refusal(uint64_t answer) { return biss_is_refused(answer) ? (unsigned)(answer & 0x3F) : 0; }
-static inline uint64_t biss_line(uint64_t answer) { return biss_is_refused(answer) ? (answer >> 9) & ((UINT64_C(1) << 53) - 1) : 0; }
-static inline unsigned biss_byte(uint64_t answer) { return biss_is_refused(answer) ? (unsigned)(answer >> 6) & 7 : 0; }
+static inline uint64_t biss_line(uint64_t answer) {
+    return biss_is_refused(answer) && !biss_tells_job(answer) ? (answer >> 9) & ((UINT64_C(1) << 53) - 1) : 0;
+}
+static inline unsigned biss_byte(uint64_t answer) { return biss_line(answer) != 0 ? (unsigned)(answer >> 6) & 7 : 0; }
+static inline size_t biss_job(uint64_t answer) {
+    return biss_tells_job(answer) ? (size_t)(answer >> 6 & ((UINT64_C(1) << 56) - 1)) : 0;
+}
 
 /* Where each field of an entry begins, and how many bytes an entry has. */
 enum {
@@ -61,7 +76,8 @@ enum {
     BISS_ENTRY_BYTES = 9,
 };
 
-/* The column of an entry, and that of the start bit S of its frame; both count from the start of the row, wherever the reader opened. */
+/* The column of an entry, and that of the start bit S of its frame; both count from the start of the row, of a table's job from that of its
+ * stretch, wherever the reader opened. */
 static inline size_t biss_column(const uint8_t *entry) { return (size_t)entry[BISS_COLUMN] << 8 | entry[BISS_COLUMN + 1]; }
 static inline size_t biss_start(const uint8_t *entry) { return (size_t)entry[BISS_START] << 8 | entry[BISS_START + 1]; }
 
@@ -103,6 +119,37 @@ uint64_t biss_run(size_t slaves, const uint8_t *banks, size_t banks_length, cons
  * the master gives up after a 1 that was not confirmed, in the column of its 0. Refusals 5 to 9. */
 uint64_t biss_read(const uint8_t *cdm, size_t cdm_length, const uint8_t *cds, size_t cds_length, size_t opening, uint8_t *out,
                    size_t out_length);
+
+/* A job of a table: the stretch of a recording from the column `first` on that has `length` columns, and the column `opening` at which its
+ * reader opens. That one counts from the stretch's first column: 0 opens where the stretch begins, and `length` lists nothing. */
+struct biss_job {
+    size_t first, length, opening;
+};
+
+/* Lists what each job of a table shows, in one call: `jobs` are stretches of one recording, whose rows may have more than 4,096 columns. A
+ * job's list is the one that biss_read gives for its stretch alone, with `first` added to both pointers and `length` for both lengths:
+ * - columns and starts of its entries count from the stretch's first column; add `first` for those of the recording;
+ * - nothing before the stretch is known: the fourteen zeros before a frame have to lie in it, and the choice of a bank too, else its
+ *   entries have BISS_NO_BANK_YET;
+ * - stretches may overlap, repeat, be empty and come in any order, and no list hangs on another.
+ *
+ * The lists go one behind the other, in the order of the table, into the first bytes of `out`: BISS_ENTRY_BYTES an entry. counts[i] becomes
+ * how many entries jobs[i] has, so that its list begins behind counts[0] + .. + counts[i - 1] entries. The answer is how many entries there
+ * are in all; of a table without jobs it is 0. Bytes of `out` past the lists stay as they were.
+ *
+ * `count_places` says how many numbers `counts` has room for, and must be `job_count`. BISS_ENTRY_BYTES times the sum of all lengths is
+ * always room enough for `out`; with so much each column is scanned once, with less the entries are counted before they are written.
+ *
+ * Refusals, in this order; none of them changes a byte of `out` or a count:
+ *   32  count_places is not job_count
+ *    6  the two rows have different lengths; they are not asked for 5
+ *   20  tells the first job whose stretch is not inside the rows: first + length is more than their columns, or more than a size_t holds. A
+ *       stretch that ends where the rows end is inside, and so is an empty one there. This is asked of all jobs before what follows.
+ *    5, 7, 8  the first job that has one of them, and of that job the first: its length is over 4,096; a byte of its stretch, in either
+ *       row, is not 0 or 1 (bytes in no job's stretch may be anything); its opening is greater than its length
+ *    9  the lists of all jobs together need more than `out_length` bytes */
+uint64_t biss_read_all(const uint8_t *cdm, size_t cdm_length, const uint8_t *cds, size_t cds_length, const struct biss_job *jobs,
+                       size_t job_count, uint8_t *out, size_t out_length, size_t *counts, size_t count_places);
 
 /* Prints two rows as text, a header and then one column a line, into the first bytes of `out`: 8 bytes, and 4 a column. Refusals 5, 6,
  * 7, 9. */

@@ -4,25 +4,39 @@
 /// Why a call refused; then no lent byte has changed. It is shown in the words of the table in biss.h.
 #[derive(Clone, Copy, PartialEq, Eq, Debug)]
 pub enum Refusal {
-    /// A number of the table in biss.h that tells no line: all but 13 to 17.
+    /// A number of the table in biss.h that tells nothing else.
     Number(u8),
     /// 13 to 17: what is wrong with a text, at this line, counted from 1, and this byte of it, counted from 0.
     InText { number: u8, line: usize, byte: usize },
+    /// 20, and of a table of jobs 5, 7 and 8: the job that has it, as it stands in the table, counted from 0.
+    OfJob { number: u8, job: usize },
 }
 
 impl Refusal {
     /// The number of the table in biss.h.
     pub fn number(self) -> u8 {
         match self {
-            Refusal::Number(number) | Refusal::InText { number, .. } => number,
+            Refusal::Number(number)
+            | Refusal::InText { number, .. }
+            | Refusal::OfJob { number, .. } => number,
+        }
+    }
+
+    /// The job of a table that has it, where it tells one.
+    pub fn job(self) -> Option<usize> {
+        match self {
+            Refusal::OfJob { job, .. } => Some(job),
+            Refusal::Number(_) | Refusal::InText { .. } => None,
         }
     }
 }
 
 impl std::fmt::Display for Refusal {
     fn fmt(&self, to: &mut std::fmt::Formatter) -> std::fmt::Result {
-        if let Refusal::InText { line, byte, .. } = self {
-            write!(to, "line {line}, byte {byte}: ")?;
+        match self {
+            Refusal::Number(_) => {}
+            Refusal::InText { line, byte, .. } => write!(to, "line {line}, byte {byte}: ")?,
+            Refusal::OfJob { job, .. } => write!(to, "job {job}: ")?,
         }
         to.write_str(words(self.number()))
     }
@@ -51,12 +65,17 @@ fn words(number: u8) -> &'static str {
         17 => "the text ends inside a line",
         18 => "waits not one byte per slave",
         19 => "banks not one number of 1 to 8 per slave",
+        20 => "a stretch outside the rows",
+        32 => "counts not one per job",
         _ => "a number that the table does not have",
     }
 }
 
 /// The bytes of an entry.
 pub const ENTRY_BYTES: usize = 9;
+
+/// The most columns of a row, and of a job's stretch.
+pub const MOST_COLUMNS: usize = 4096;
 
 /// The bytes of the header of a list's text, and the most that the line of an entry has.
 pub const LIST_HEADER_BYTES: usize = 41;
@@ -84,6 +103,16 @@ pub struct Entry {
     pub value: u8,
 }
 
+impl Entry {
+    /// The entry as it stands in a list.
+    pub fn bytes(self) -> [u8; ENTRY_BYTES] {
+        let [high, low] = (self.column as u16).to_be_bytes();
+        let [start_high, start_low] = (self.start as u16).to_be_bytes();
+        let Entry { kind, id, address, bank, value, .. } = self;
+        [kind, high, low, start_high, start_low, id, address, bank, value]
+    }
+}
+
 /// The entries of a list, as `read` makes it.
 pub fn entries(list: &[u8]) -> impl Iterator<Item = Entry> + '_ {
     let column = |high: u8, low: u8| usize::from(u16::from_be_bytes([high, low]));
@@ -101,7 +130,19 @@ pub fn entries(list: &[u8]) -> impl Iterator<Item = Entry> + '_ {
 /// How many columns, bytes or entries were made, or why none.
 pub type Answer = Result<usize, Refusal>;
 
+/// A job of a table: a stretch of a recording, by its first column and its length, and the column at which its reader opens, counted from
+/// the stretch's first column.
+#[repr(C)]
+#[derive(Clone, Copy, PartialEq, Eq, Debug)]
+pub struct Job {
+    pub first: usize,
+    pub length: usize,
+    pub opening: usize,
+}
+
 mod calls {
+    use super::Job;
+
     extern "C" {
         pub fn biss_build_read(
             id: u8,
@@ -145,6 +186,18 @@ mod calls {
             out: *mut u8,
             out_length: usize,
         ) -> u64;
+        pub fn biss_read_all(
+            cdm: *const u8,
+            cdm_length: usize,
+            cds: *const u8,
+            cds_length: usize,
+            jobs: *const Job,
+            job_count: usize,
+            out: *mut u8,
+            out_length: usize,
+            counts: *mut usize,
+            count_places: usize,
+        ) -> u64;
         pub fn biss_rows_to_text(
             cdm: *const u8,
             cdm_length: usize,
@@ -175,13 +228,17 @@ mod calls {
 #[derive(Clone, Copy, PartialEq, Eq, Debug)]
 pub struct ChannelPlace(pub u8);
 
-/// What a call's code says. Without bit 63 it is how many were made; with it bits 61 to 9 are the line of a refusal, 0 where it tells
-/// none, bits 8 to 6 the byte in that line and bits 5 to 0 the number.
+/// What a call's code says. Without bit 63 it is how many were made; with it bits 5 to 0 are the number of a refusal. With bit 62 too,
+/// bits 61 to 6 are its job; else bits 61 to 9 are its line, 0 where it tells none, and bits 8 to 6 the byte in that line.
 pub fn answer(coded: u64) -> Answer {
     if coded >> 63 == 0 {
         return Ok(coded as usize);
     }
     let number = (coded & 0x3F) as u8;
+    if coded >> 62 & 1 == 1 {
+        let job = (coded >> 6 & ((1 << 56) - 1)) as usize;
+        return Err(Refusal::OfJob { number, job });
+    }
     let byte = (coded >> 6 & 7) as usize;
     let line = (coded >> 9 & ((1 << 53) - 1)) as usize;
     Err(if line == 0 { Refusal::Number(number) } else { Refusal::InText { number, line, byte } })
@@ -249,6 +306,56 @@ pub fn read(cdm: &[u8], cds: &[u8], opening: usize, out: &mut [u8]) -> Answer {
             out.len(),
         )
     })
+}
+
+/// Lists every job of a table into the lent buffers, one list behind the other, and the count of each.
+pub fn read_all_into(
+    cdm: &[u8],
+    cds: &[u8],
+    jobs: &[Job],
+    out: &mut [u8],
+    counts: &mut [usize],
+) -> Answer {
+    answer(unsafe {
+        calls::biss_read_all(
+            cdm.as_ptr(),
+            cdm.len(),
+            cds.as_ptr(),
+            cds.len(),
+            jobs.as_ptr(),
+            jobs.len(),
+            out.as_mut_ptr(),
+            out.len(),
+            counts.as_mut_ptr(),
+            counts.len(),
+        )
+    })
+}
+
+/// The most bytes that `read_all` lends at first: room for as many entries as 1,864,135 columns can have.
+const FIRST_ROOM: usize = 1 << 24;
+
+/// The list of every job of a table, in its order. It is refused by 6, 20, 5, 7 and 8 alone.
+pub fn read_all(cdm: &[u8], cds: &[u8], jobs: &[Job]) -> Result<Vec<Vec<Entry>>, Refusal> {
+    // Room for every column is always enough. A stretch that is longer than a row may be is refused, whatever its length.
+    let columns = |job: &Job| job.length.min(MOST_COLUMNS);
+    let most = jobs.iter().map(|job| ENTRY_BYTES * columns(job)).fold(0, usize::saturating_add);
+    let mut room = most.min(FIRST_ROOM);
+    let mut counts = vec![0; jobs.len()];
+    loop {
+        let mut out = vec![0; room];
+        match read_all_into(cdm, cds, jobs, &mut out, &mut counts) {
+            Err(Refusal::Number(9)) if room < most => room = room.saturating_mul(2).min(most),
+            Err(refusal) => return Err(refusal),
+            Ok(_) => return Ok(lists(&out, &counts)),
+        }
+    }
+}
+
+/// The lists of so many entries each that stand one behind the other.
+fn lists(out: &[u8], counts: &[usize]) -> Vec<Vec<Entry>> {
+    let mut listed = entries(out);
+    counts.iter().map(|&count| listed.by_ref().take(count).collect()).collect()
 }
 
 pub fn rows_to_text(cdm: &[u8], cds: &[u8], out: &mut [u8]) -> Answer {

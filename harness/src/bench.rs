@@ -1,9 +1,10 @@
 //! Times model and library side by side.
 
 pub mod rows;
+mod tables;
 
 use crate::job::Job;
-use crate::jobs::{Calls, Model, JOBS};
+use crate::jobs::{Model, JOBS};
 use crate::library::Library;
 use std::hint::black_box;
 use std::time::Instant;
@@ -30,34 +31,34 @@ impl<J> Timed<J> {
     }
 }
 
-fn stretch<J: Job>(repeats: usize, case: &mut J, calls: &impl Calls) -> f64 {
+/// Shortens a time to that of a timed stretch of calls, if it took less.
+fn shorten<J, A>(least: &mut f64, repeats: usize, case: &mut J, call: impl Fn(&mut J) -> A) {
     let start = Instant::now();
     for _ in 0..repeats {
-        black_box(black_box(&mut *case).call(calls));
+        black_box(call(black_box(&mut *case)));
     }
-    start.elapsed().as_nanos() as f64 / repeats as f64
+    *least = least.min(start.elapsed().as_nanos() as f64 / repeats as f64);
 }
 
-/// The times of both in ns a column, from the least of each case.
-fn least<J: Job>(timed: &Timed<J>) -> (f64, f64) {
+/// The times in ns a column, from the least of each case: of the model and of the library.
+fn least<J: Job>(timed: &Timed<J>) -> [f64; 2] {
     let repeats = (COLUMNS_A_STRETCH / timed.columns).max(1);
     let rounds = if timed.cases.len() == 1 { ROUNDS } else { VARIED_ROUNDS };
     let (mut model, mut library) = (timed.cases.clone(), timed.cases.clone());
-    let mut best = vec![(f64::MAX, f64::MAX); timed.cases.len()];
+    let mut best = vec![[f64::MAX; 2]; timed.cases.len()];
     for _ in 0..rounds {
         for (place, best) in best.iter_mut().enumerate() {
-            best.0 = best.0.min(stretch(repeats, &mut model[place], &Model));
-            best.1 = best.1.min(stretch(repeats, &mut library[place], &Library));
+            shorten(&mut best[0], repeats, &mut model[place], |case| case.call(&Model));
+            shorten(&mut best[1], repeats, &mut library[place], |case| case.call(&Library));
         }
     }
-    let all = best.iter().fold((0.0, 0.0), |all, one| (all.0 + one.0, all.1 + one.1));
-    (all.0 / timed.columns as f64, all.1 / timed.columns as f64)
+    [0, 1].map(|way| best.iter().map(|best| best[way]).sum::<f64>() / timed.columns as f64)
 }
 
 /// Times one job.
 pub fn bench<J: Job>() {
     for timed in J::timed() {
-        let (model, library) = least(&timed);
+        let [model, library] = least(&timed);
         let (what, row, columns) = (&timed.what, timed.row, timed.columns / timed.cases.len());
         let ratio = library / model;
         println!("{what:<16}{columns:>8}  {row:<6}{model:>10.2}{library:>10.2}{ratio:>12.2}");
@@ -74,8 +75,14 @@ pub fn bench_all() {
     println!("banks: such rows for slaves with {} banks; half the frames choose one", rows::BANKS);
     println!("waits: such rows, or built ones, for a slave that waits {}", rows::WAIT);
     println!(
-        "{:<16}{:>8}  {:<6}{:>10}{:>10}{:>12}",
-        "job", "columns", "row", "model", "library", "lib / model"
+        "read_all: {} stretches of 100 to 500 columns of varied rows in one call, and against as many",
+        rows::STRETCHES
+    );
+    println!("  calls of read; ample: room for every column; exact: room for the lists, in each call too");
+    println!(
+        "{:<16}{:>8}  {:<6}{:>10}{:>10}{:>12}{:>12}",
+        "job", "columns", "row", "model", "library", "lib / model", "/ singly"
     );
     JOBS.iter().for_each(|job| (job.bench)());
+    tables::bench();
 }

@@ -3,8 +3,8 @@
 use crate::bench::bench;
 use crate::compare::{compare, describe};
 use crate::counts::Counts;
-use crate::generate::{Marks, Provoked, Random};
-use crate::job::{marks, numbers, with_later, Job};
+use crate::generate::{Marks, Random};
+use crate::job::{marks, with_others, Job};
 use crate::jobs::JOBS;
 use crate::shrink::shrink;
 
@@ -23,7 +23,7 @@ impl Listed {
         Listed {
             name,
             share,
-            refusals: with_later::<J>,
+            refusals: with_others::<J>,
             marks: marks::<J>,
             bench: bench::<J>,
             make: Seeded::<J>::make,
@@ -65,7 +65,7 @@ struct Seeded<J> {
 
 impl<J: Job> Seeded<J> {
     fn make(name: &'static str, seed: u64, random: &mut Random) -> Box<dyn Case> {
-        let provoked = Provoked::draw(random, &numbers::<J>(), J::EXCLUSIVE.0);
+        let provoked = J::provoke(random);
         let mut marks = Marks::new();
         let case = J::make(random, &provoked, &mut marks);
         Box::new(Seeded { name, seed, marks, case })

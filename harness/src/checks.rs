@@ -20,7 +20,7 @@ pub fn must(holds: bool, what: &str) -> Result<(), String> {
 /// Checks the model's outcome and the bytes it left.
 pub fn check<J: Job>(case: &J, left: &Left<J>, seed: u64) -> Result<(), String> {
     let given = left.outcome.refusal();
-    let first = holding(case).first().copied();
+    let first = case.given(&holding(case));
     must(given == first, "the refusal is the first whose condition holds")?;
     if given.is_some() {
         let mut lent = case.lent().into_iter().zip(left.case.lent());

@@ -55,10 +55,8 @@ pub fn compare<J: Job>(case: &J, seed: u64) -> Result<Left<J>, String> {
     }
     let by_itself = |who: &'static str| move |wrong| format!("the {who} by itself: {wrong}");
     check(case, &model, seed).map_err(by_itself("model"))?;
-    if let Made(made) = model.outcome {
-        case.check_further(&model.case, made, &Model).map_err(by_itself("model"))?;
-        case.check_further(&model.case, made, &Library).map_err(by_itself("library"))?;
-    }
+    case.check_further(&model.case, model.outcome, &Model).map_err(by_itself("model"))?;
+    case.check_further(&model.case, model.outcome, &Library).map_err(by_itself("library"))?;
     Ok(model)
 }
 

@@ -1,6 +1,7 @@
-//! Conditions of refusals that several jobs have, those of a text, those of an entry's
-//! start and bank and those of a `mute`.
+//! Conditions of refusals that several jobs have, those of a text, those of a job of a
+//! table, those of an entry's start and bank and those of a `mute`.
 
+use model::table::{Rows, Stretch};
 use model::Fault;
 
 /// 5 for two rows.
@@ -11,6 +12,30 @@ pub fn too_long(cdm: &[u8], cds: &[u8]) -> bool {
 /// 7 for one row.
 pub fn bad_byte(row: &[u8]) -> bool {
     row.iter().any(|&byte| byte != 0 && byte != 1)
+}
+
+/// 7 for one column of two rows.
+pub fn bad_column(rows: Rows, column: usize) -> bool {
+    rows.iter().any(|row| bad_byte(&row[column..column + 1]))
+}
+
+/// The refusals that tell a job of a table, in the order in which one job has them.
+pub const OF_JOB: [u8; 4] = [20, 5, 7, 8];
+
+/// One of them for one job, judged by itself: 20 where it leaves either row, 7 of those of
+/// its columns that the rows have.
+pub fn holds_of_job(number: u8, [first, length, opening]: Stretch, rows: Rows) -> bool {
+    let is_left = |row: &[u8]| first as u128 + length as u128 > row.len() as u128;
+    match number {
+        20 => rows.into_iter().any(is_left),
+        5 => length >= 4097,
+        7 => rows.into_iter().any(|row| {
+            let mut stretch = row.iter().skip(first).take(length);
+            stretch.any(|&byte| byte != 0 && byte != 1)
+        }),
+        8 => opening > length,
+        _ => unreachable!("no job of a table has {number}"),
+    }
 }
 
 /// 13 to 17: the first place of a text whose byte does not belong there, or its

@@ -1,8 +1,11 @@
 //! How often each entry kind, each opening again at a frame, each refusal, each fault of
-//! a text, each phase, each wait, each bank and each way to make a case came up.
+//! a text, each phase, each wait, each bank, each stretch of a table and each way to make
+//! a case came up.
 
 mod banks;
+pub mod stretches;
 mod table;
+pub mod told_jobs;
 mod waits;
 
 use crate::case::Listed;
@@ -21,6 +24,8 @@ use model::Outcome::{InText, Made};
 use std::collections::{BTreeMap, BTreeSet};
 use std::fmt;
 use std::ops::RangeInclusive;
+use stretches::Tabled;
+use told_jobs::Told;
 
 const LEAST: u64 = 100;
 /// These never occur in the account, so not in honest rows; "`mute` may now stand" there.
@@ -91,6 +96,10 @@ pub enum Count {
     PassedOver(u8),
     /// Banks of lists that were opened late.
     Late(Late),
+    /// What tables that were read, and their jobs, have.
+    Table(Tabled),
+    /// What tables that were refused have.
+    Told(Told),
     /// Faults of texts: where, the number, and the byte in the line.
     Fault(Part, u8, usize),
     Made(&'static str),
@@ -141,6 +150,8 @@ impl fmt::Display for Count {
             Count::Named(kind, named) => write!(to, "bank of {} {named:?}", kind_name(*kind)),
             Count::PassedOver(kind) => write!(to, "passed over {}", kind_name(*kind)),
             Count::Late(bank) => write!(to, "late bank {bank:?}"),
+            Count::Table(met) => write!(to, "table {met:?}"),
+            Count::Told(told) => write!(to, "table refused {told}"),
             Count::Fault(part, number, byte) => write!(to, "{part:?} {number} at byte {byte}"),
             Count::Made(job) => write!(to, "{job} made"),
             Count::Marked(job, mark) => write!(to, "{job} {mark}"),
@@ -197,6 +208,7 @@ impl Counts {
         }
         if let Some(number) = left.outcome.refusal() {
             self.add_refusal(job, number, &holding(case));
+            case.count_refused(left.outcome, self);
         }
     }
 
@@ -266,6 +278,8 @@ fn expected() -> Vec<Count> {
     all.extend(PHASES.map(Count::ReaderAt));
     all.extend(waits::expected());
     all.extend(banks::expected());
+    all.extend(stretches::expected());
+    all.extend(told_jobs::expected());
     all.extend(PARTS.into_iter().flat_map(expected_of_texts));
     all.extend(JOBS.iter().flat_map(expected_of_job));
     all

@@ -8,6 +8,7 @@ mod random;
 pub mod recordings;
 mod rooms;
 pub mod rows;
+pub mod tables;
 pub mod texts;
 
 pub use provoked::Provoked;

@@ -21,10 +21,17 @@ pub type Exclusive<J> = (&'static [u8], fn(&J) -> Option<u8>);
 pub trait Job: Fields + Clone + 'static {
     const EXCLUSIVE: Exclusive<Self> = (&[], |_| None);
     const REFUSALS: Refusals<Self>;
+    /// Those among them of which any can go before any other, by the case.
+    const IN_ANY_ORDER: &'static [u8] = &[];
 
     /// What its cases must be marked with, beside the marks of room for a result.
     fn marks() -> Marks {
         Marks::new()
+    }
+
+    /// The refusals that a case is to provoke.
+    fn provoke(random: &mut Random) -> Provoked {
+        Provoked::draw(random, &numbers::<Self>(), Self::EXCLUSIVE.0)
     }
 
     /// A case that provokes these refusals, marked with how it was made.
@@ -33,19 +40,27 @@ pub trait Job: Fields + Clone + 'static {
     /// The call on this case, which becomes what the call leaves.
     fn call(&mut self, calls: &impl Calls) -> Outcome;
 
+    /// The refusal to be given where these hold, in the job's order.
+    fn given(&self, holding: &[u8]) -> Option<u8> {
+        holding.first().copied()
+    }
+
     /// What must hold of the model's outcome and of what it left, by itself.
     fn check(&self, _left: &Self, _outcome: Outcome, _random: &mut Random) -> Result<(), String> {
         Ok(())
     }
 
-    /// What must hold of further calls, by whoever answers them, where one left
-    /// something made.
-    fn check_further(&self, _left: &Self, _made: usize, _calls: &impl Calls) -> Result<(), String> {
+    /// What must hold of further calls, by whoever answers them, behind one that
+    /// had this outcome.
+    fn check_further(&self, _: &Self, _: Outcome, _: &impl Calls) -> Result<(), String> {
         Ok(())
     }
 
     /// Counts what a call met that made something.
     fn count(&self, _left: &Self, _made: usize, _counts: &mut Counts) {}
+
+    /// Counts what a call met that was refused.
+    fn count_refused(&self, _outcome: Outcome, _counts: &mut Counts) {}
 
     /// The case with all the room that its result can need.
     fn roomy(&self) -> Self {
@@ -75,13 +90,18 @@ pub fn numbers<J: Job>() -> Vec<u8> {
     J::EXCLUSIVE.0.iter().copied().chain(others).collect()
 }
 
-/// The refusals of a job in its order, each with the later ones that can hold
-/// with it.
-pub fn with_later<J: Job>() -> Vec<(u8, Vec<u8>)> {
+/// The refusals of a job in its order, each with those that can hold where it is
+/// given: the later ones, and those of which any can go first.
+pub fn with_others<J: Job>() -> Vec<(u8, Vec<u8>)> {
     let numbers = numbers::<J>();
     let exclusive = J::EXCLUSIVE.0.len();
-    let later = |order: usize| numbers[exclusive.max(order + 1)..].to_vec();
-    numbers.iter().enumerate().map(|(order, &number)| (number, later(order))).collect()
+    let is_free = |number: &u8| J::IN_ANY_ORDER.contains(number);
+    let others = |order: usize| {
+        let earlier =
+            numbers[..order].iter().filter(|other| is_free(other) && is_free(&numbers[order]));
+        earlier.chain(&numbers[exclusive.max(order + 1)..]).copied().collect()
+    };
+    numbers.iter().enumerate().map(|(order, &number)| (number, others(order))).collect()
 }
 
 /// What a job's cases must be marked with.

@@ -7,16 +7,21 @@ mod build_read;
 mod build_write;
 mod list_to_text;
 mod read;
+mod read_all;
 mod rows_to_text;
 mod run;
 mod text_to_rows;
 
 use crate::case::Listed;
 use crate::library::{self, Library, Told};
+use model::table::{Rows, Stretch};
 use model::Outcome;
 
 /// The model, as one of the two that are called.
 pub struct Model;
+
+/// The bytes of each job's list, or a refusal.
+pub type Lists = Result<Vec<Vec<u8>>, Outcome>;
 
 /// A line a call: its name and arguments, which the model's and the library's
 /// function share. Where it is a job of seeds: the struct of its cases, and its
@@ -25,6 +30,12 @@ macro_rules! table {
     ($($name:ident($($argument:ident: $kind:ty),*) $(=> $job:ty, $share:literal)?;)*) => {
         pub trait Calls {
             $(fn $name(&self, $($argument: $kind),*) -> Outcome;)*
+
+            /// The lists of a table's jobs, in buffers that are not lent, where they
+            /// can be had so.
+            fn lists(&self, _: Rows, _: &[Stretch]) -> Option<Lists> {
+                None
+            }
         }
 
         impl Calls for Model {
@@ -37,6 +48,10 @@ macro_rules! table {
             $(fn $name(&self, $($argument: $kind),*) -> Outcome {
                 library::functions::$name($($argument),*).told()
             })*
+
+            fn lists(&self, rows: Rows, jobs: &[Stretch]) -> Option<Lists> {
+                library::lists(rows, jobs)
+            }
         }
 
         pub const JOBS: &[Listed] = &[$($(Listed::new::<$job>(stringify!($name), $share),)?)*];
@@ -54,6 +69,8 @@ table! {
         cdm: &[u8], cds: &mut [u8]
     ) => run::Run, 31;
     read(cdm: &[u8], cds: &[u8], opening: usize, out: &mut [u8]) => read::Read, 31;
+    read_all(rows: Rows, jobs: &[Stretch], out: &mut [u8], counts: &mut [usize])
+        => read_all::ReadAll, 8;
     text_to_rows(text: &[u8], cdm: &mut [u8], cds: &mut [u8]) => text_to_rows::TextToRows, 12;
     rows_to_text(cdm: &[u8], cds: &[u8], out: &mut [u8]) => rows_to_text::RowsToText, 9;
     list_to_text(list: &[u8], out: &mut [u8]) => list_to_text::ListToText, 10;

@@ -1,11 +1,16 @@
 //! Buffers lent to a call, with guards around them.
 
 use model::entry::ENTRY_BYTES;
+use model::table::Stretch;
 use std::ops::{Deref, DerefMut};
 
 /// Bytes before and behind a lent buffer that nobody may touch.
 const GUARD: usize = 64;
 const GUARD_BYTE: u8 = 0xA5;
+
+/// The bytes of a number and of a job, where a buffer is lent for such.
+pub const NUMBER: usize = size_of::<usize>();
+pub const JOB: usize = 3 * NUMBER;
 
 /// A lent buffer; it stands for the bytes between its guards.
 #[derive(Clone)]
@@ -19,6 +24,29 @@ impl Lent {
 
     pub fn zeros(length: usize) -> Lent {
         Lent::copy(&vec![0; length])
+    }
+
+    pub fn of_numbers(numbers: &[usize]) -> Lent {
+        Lent::copy(&numbers.iter().flat_map(|number| number.to_ne_bytes()).collect::<Vec<u8>>())
+    }
+
+    /// The numbers that it holds.
+    pub fn numbers(&self) -> Vec<usize> {
+        numbers_in(self)
+    }
+
+    /// The jobs of a table that it holds.
+    pub fn jobs(&self) -> Vec<Stretch> {
+        numbers_in(self).chunks_exact(3).map(|job| [job[0], job[1], job[2]]).collect()
+    }
+
+    /// Lends its numbers to a call that may change them, and those around them.
+    pub fn lend_numbers<T>(&mut self, call: impl FnOnce(&mut [usize]) -> T) -> T {
+        let mut numbers = numbers_in(&self.0);
+        let (start, end) = (GUARD / NUMBER, numbers.len() - GUARD / NUMBER);
+        let answer = call(&mut numbers[start..end]);
+        self.0 = numbers.iter().flat_map(|number| number.to_ne_bytes()).collect();
+        answer
     }
 
     /// Takes out bytes `from` to `to` - 1, as far as there are any.
@@ -51,6 +79,11 @@ impl DerefMut for Lent {
     }
 }
 
+fn numbers_in(bytes: &[u8]) -> Vec<usize> {
+    let number = |bytes: &[u8]| usize::from_ne_bytes(bytes.try_into().expect("as many bytes"));
+    bytes.chunks_exact(NUMBER).map(number).collect()
+}
+
 /// What a buffer is lent for; by it a case is shown and made small.
 #[derive(Clone, Copy, PartialEq, Eq)]
 pub enum Use {
@@ -60,6 +93,10 @@ pub enum Use {
     Rights,
     Banks,
     Bytes,
+    /// Numbers, three a job of a table.
+    Jobs,
+    /// Numbers that a call changes.
+    Counts,
     /// A result goes into it.
     Room,
 }
@@ -72,7 +109,7 @@ impl Use {
             Use::Row => Some(1),
             Use::Text => Some(4),
             Use::List => Some(ENTRY_BYTES),
-            Use::Rights | Use::Banks | Use::Bytes | Use::Room => None,
+            Use::Rights | Use::Banks | Use::Bytes | Use::Jobs | Use::Counts | Use::Room => None,
         }
     }
 
@@ -82,18 +119,21 @@ impl Use {
             Use::Rights => 3,
             Use::Banks => 1,
             Use::Text => b'0',
-            Use::Row | Use::List | Use::Bytes | Use::Room => 0,
+            Use::Row | Use::List | Use::Bytes | Use::Jobs | Use::Counts | Use::Room => 0,
         }
     }
 
-    /// Rows as digits where they hold 0 and 1, texts as they are, all else in
-    /// hex, repeats shortened.
+    /// Rows as digits where they hold 0 and 1, texts as they are, jobs by their
+    /// numbers, all else in hex, repeats shortened.
     pub fn shown(self, bytes: &[u8]) -> String {
         if self == Use::Row && bytes.iter().all(|&byte| byte < 2) {
             return bytes.iter().map(|byte| char::from(b'0' + byte)).collect();
         }
         if self == Use::Text {
             return format!("\"{}\"", bytes.escape_ascii());
+        }
+        if self == Use::Jobs {
+            return format!("{:?}", Lent::copy(bytes).jobs());
         }
         if bytes.len() > 1 && bytes.iter().all(|&byte| byte == bytes[0]) {
             return format!("all {:02x}", bytes[0]);

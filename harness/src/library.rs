@@ -5,6 +5,8 @@
 //! its users get; with `mutant`, those of a mutant of the model; with neither,
 //! the model's own, so that the comparison can be tried on itself.
 
+use crate::jobs::Lists;
+use model::table::{Rows, Stretch};
 #[cfg(any(feature = "linked", feature = "mutant"))]
 use model::Fault;
 use model::Outcome;
@@ -46,8 +48,31 @@ impl Told for mutant::Outcome {
             mutant::Outcome::InText(mutant::Fault { number, line, byte }) => {
                 Outcome::InText(Fault { number, line, byte })
             }
+            mutant::Outcome::OfJob { number, job } => Outcome::OfJob { number, job },
         }
     }
+}
+
+/// Only the wrapper makes buffers of its own.
+#[cfg(not(feature = "linked"))]
+pub fn lists(_: Rows, _: &[Stretch]) -> Option<Lists> {
+    None
+}
+
+/// A table as a caller has it, for times.
+#[cfg(not(feature = "linked"))]
+pub type Prepared = Vec<Stretch>;
+
+#[cfg(not(feature = "linked"))]
+pub fn prepared(jobs: &[Stretch]) -> Prepared {
+    jobs.to_vec()
+}
+
+pub fn read_prepared(rows: Rows, jobs: &Prepared, out: &mut [u8], counts: &mut [usize]) -> Outcome {
+    #[cfg(feature = "linked")]
+    return linked::read_jobs(rows, jobs, out, counts).told();
+    #[cfg(not(feature = "linked"))]
+    functions::read_all(rows, jobs, out, counts).told()
 }
 
 /// The wrapper. Where the library is not linked, only how it reads and words an
@@ -57,12 +82,51 @@ impl Told for mutant::Outcome {
 pub mod biss;
 
 #[cfg(feature = "linked")]
-pub use biss as functions;
+pub use linked::{lists, prepared, Prepared};
+
+/// The wrapper's functions; those that read a table take its jobs as the model has them.
+#[cfg(feature = "linked")]
+pub mod functions {
+    pub use super::biss::*;
+    pub use super::linked::read_all;
+}
 
 #[cfg(feature = "linked")]
 mod linked {
-    use super::biss::{Answer, ChannelPlace, Refusal};
-    use super::{Fault, Outcome, Told};
+    use super::biss::{self, Answer, ChannelPlace, Entry, Job, Refusal};
+    use super::{Fault, Lists, Outcome, Rows, Stretch, Told};
+
+    pub type Prepared = Vec<Job>;
+
+    pub fn prepared(jobs: &[Stretch]) -> Prepared {
+        jobs.iter().map(|&[first, length, opening]| Job { first, length, opening }).collect()
+    }
+
+    /// The jobs of a table and behind them one that nobody may look at.
+    fn guarded(jobs: &[Stretch]) -> Vec<Job> {
+        prepared(&[jobs, &[[usize::MAX; 3]]].concat())
+    }
+
+    pub fn read_jobs(
+        [cdm, cds]: Rows,
+        jobs: &[Job],
+        out: &mut [u8],
+        counts: &mut [usize],
+    ) -> Answer {
+        biss::read_all_into(cdm, cds, jobs, out, counts)
+    }
+
+    pub fn read_all(rows: Rows, jobs: &[Stretch], out: &mut [u8], counts: &mut [usize]) -> Answer {
+        read_jobs(rows, &guarded(jobs)[..jobs.len()], out, counts)
+    }
+
+    pub fn lists([cdm, cds]: Rows, jobs: &[Stretch]) -> Option<Lists> {
+        let list = |list: &Vec<Entry>| list.iter().flat_map(|entry| entry.bytes()).collect();
+        Some(match biss::read_all(cdm, cds, &guarded(jobs)[..jobs.len()]) {
+            Ok(lists) => Ok(lists.iter().map(list).collect()),
+            Err(refusal) => Err(Answer::Err(refusal).told()),
+        })
+    }
 
     impl Told for Answer {
         fn told(self) -> Outcome {
@@ -72,6 +136,7 @@ mod linked {
                 Err(Refusal::InText { number, line, byte }) => {
                     Outcome::InText(Fault { number, line, byte })
                 }
+                Err(Refusal::OfJob { number, job }) => Outcome::OfJob { number, job },
             }
         }
     }

@@ -11,6 +11,7 @@ mod counts;
 mod generate;
 mod job;
 mod jobs;
+mod large_table;
 mod lent;
 mod library;
 mod programs;
@@ -19,6 +20,7 @@ mod shrink;
 
 use cases::{cases, one_seed, watch};
 use channels::channel_places;
+use large_table::large_table;
 use std::path::Path;
 use std::process::ExitCode;
 
@@ -27,8 +29,8 @@ const USUAL_CASES: u64 = 600_000;
 const ROOT: &str = "..";
 
 const HELP: &str = "\
-harness                   the bench card on the model, every channel place, then
-                          600,000 cases
+harness                   the bench card on the model, every channel place, a large
+                          table, then 600,000 cases
 harness soak N [FIRST]    N thousand cases from seed FIRST (default 1000000)
 harness seed S            one case, shown
 harness watch FIRST N     N cases on one thread, each seed printed before it
@@ -45,8 +47,8 @@ harness --help            this text
 
 Exit status 0 if model and library never differ, the model keeps its own
 promises and every count of entries, frames opened again, refusals, faults,
-phases, waits, banks and ways to make a case is at least 100 (the last not asked of
-soak under 600, seed and watch).";
+phases, waits, banks, stretches and ways to make a case is at least 100 (the last
+not asked of soak under 600, seed and watch).";
 
 fn selftest() -> bool {
     let (tried, failed) = selftest::selftest();
@@ -65,7 +67,7 @@ fn soak(thousands: u64, first: u64) -> bool {
 /// None if the words are not understood.
 fn obey(words: &[&str]) -> Option<bool> {
     let good = match words {
-        [] => selftest() && channel_places() && cases(0, USUAL_CASES, true),
+        [] => selftest() && channel_places() && large_table() && cases(0, USUAL_CASES, true),
         ["soak", thousands] => soak(thousands.parse().ok()?, 1_000_000),
         ["soak", thousands, first] => soak(thousands.parse().ok()?, first.parse().ok()?),
         ["seed", seed] => one_seed(seed.parse().ok()?),

@@ -1,7 +1,8 @@
 //! The bench card of paper 01, tried on the model, starts, judged by the conditions,
-//! slow memories and banks.
+//! slow memories, banks and tables of jobs.
 
 mod banks;
+mod tables;
 mod waits;
 mod wrapper;
 
@@ -48,6 +49,7 @@ pub fn selftest() -> (usize, Vec<String>) {
     lists(&mut card);
     waits::tried(&mut card);
     banks::tried(&mut card);
+    tables::tried(&mut card);
     wrapper::tried(&mut card);
     (card.tried, card.failed)
 }

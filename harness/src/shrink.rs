@@ -19,9 +19,9 @@ pub fn shrink<J: Job>(case: &J, fails: &dyn Fn(&J) -> bool) -> J {
     let mut shrinker = Shrinker { case: case.clone(), fails };
     let piece = J::LENT.iter().filter_map(|(_, lent_for)| lent_for.piece()).max().unwrap_or(1);
     for _ in 0..4 {
-        let mut dropped = shrinker.drop_pieces(piece);
+        let mut dropped = shrinker.take_smaller();
+        dropped |= shrinker.drop_pieces(piece);
         dropped |= piece > 1 && shrinker.drop_pieces(1);
-        dropped |= shrinker.take_smaller();
         shrinker.simplify_bytes();
         if !dropped {
             break;
@@ -94,8 +94,13 @@ impl<J: Job> Shrinker<'_, J> {
             || self.keep_if_failing_without(0, size)
     }
 
+    /// As often as there is a smaller one that fails.
     fn take_smaller(&mut self) -> bool {
-        self.case.smaller().into_iter().any(|smaller| self.keep_if_failing(smaller))
+        let mut any = false;
+        while self.case.smaller().into_iter().any(|smaller| self.keep_if_failing(smaller)) {
+            any = true;
+        }
+        any
     }
 
     /// Shortens the room for results.

@@ -16,12 +16,13 @@ pub fn index(text: &[u8], opening: usize) -> Vec<u8> {
         InText(Fault { number, line, byte }) => {
             return format!("refused\t{number}\t{line}\t{byte}\n").into_bytes();
         }
+        other => panic!("text to rows answered {other:?}"),
     };
     let mut list = vec![0; ENTRY_BYTES * MOST_COLUMNS];
     let entries = match read(&cdm[..columns], &cds[..columns], opening, &mut list) {
         Made(entries) => entries,
         Refused(number) => return format!("refused\t{number}\n").into_bytes(),
-        InText(fault) => panic!("read answered {fault:?}"),
+        other => panic!("read answered {other:?}"),
     };
     let mut printed = vec![0; printed_at_most(entries)];
     match list_to_text(&list[..ENTRY_BYTES * entries], &mut printed) {

@@ -15,6 +15,7 @@ pub mod reader;
 pub mod replay;
 pub mod rows;
 pub mod slave;
+pub mod table;
 pub mod text;
 
 pub use build::{build_command, build_read, build_write};
@@ -22,6 +23,7 @@ pub use chain::run;
 pub use channel::channel_of;
 pub use index::index;
 pub use list::{list_to_text, read};
+pub use table::read_all;
 pub use text::{rows_to_text, text_to_rows};
 
 /// What a job returns.
@@ -33,6 +35,8 @@ pub enum Outcome {
     Refused(u8),
     /// A refusal of a text, 13 to 17.
     InText(Fault),
+    /// A refusal of a job of a table, 20, 5, 7 or 8; the table's jobs count from 0.
+    OfJob { number: u8, job: usize },
 }
 
 /// What is wrong with a text: the number, the line, counted from 1, and the byte
@@ -49,7 +53,7 @@ impl Outcome {
     pub fn refusal(self) -> Option<u8> {
         match self {
             Outcome::Made(_) => None,
-            Outcome::Refused(number) => Some(number),
+            Outcome::Refused(number) | Outcome::OfJob { number, .. } => Some(number),
             Outcome::InText(fault) => Some(fault.number),
         }
     }

@@ -3,6 +3,7 @@
 use crate::generate::Random;
 use model::entry::ENTRY_BYTES;
 use model::frame::{registers_of, BANK_BYTES, BANK_REGISTER};
+use model::table::Stretch;
 use model::Outcome::Made;
 use model::{build_read, build_write};
 
@@ -87,6 +88,26 @@ fn varied_row(random: &mut Random, slaves: usize, banks: u8, wait: u8) -> Vec<u8
 fn varied(slaves: usize, banks: u8, wait: u8) -> Vec<Vec<u8>> {
     let mut random = Random::from_seed(SEED);
     (0..VARIED_ROWS).map(|_| varied_row(&mut random, slaves, banks, wait)).collect()
+}
+
+/// How many stretches of a recording are read in one call.
+pub const STRETCHES: usize = 1000;
+
+/// The varied rows of one slave joined to one recording.
+pub fn varied_recording() -> [Vec<u8>; 2] {
+    let all = Rows { name: "varied", banks: 1, wait: 0, rows: varied(1, 1, 0) };
+    let answers: Vec<Vec<u8>> = all.rows.iter().map(|cdm| all.answered(cdm)).collect();
+    [all.rows.concat(), answers.concat()]
+}
+
+/// Stretches of some hundred columns anywhere in so many.
+pub fn stretches(columns: usize) -> Vec<Stretch> {
+    let mut random = Random::from_seed(SEED);
+    let mut stretch = || {
+        let length = random.between(100, 500);
+        [random.below(columns - length), length, 0]
+    };
+    (0..STRETCHES).map(|_| stretch()).collect()
 }
 
 impl Rows {

@@ -1,9 +1,12 @@
 //! The counts as a table.
 
 use super::banks::{BANKS, LATE, NAMED, PASSED_OVER, SITUATIONS};
+use super::stretches::TABLED;
+use super::told_jobs::{Told, EDGES, HOLDING, PLACES, SIDES};
 use super::waits::{told, BYTES, REPEATED, WAITS};
 use super::{kind_name, kinds, Count, Counts, Part, LOCKS, PARTS};
 use crate::case::Listed;
+use crate::conditions::OF_JOB;
 use crate::generate::recordings::{Answers, ANSWERS};
 use crate::generate::texts::Faults;
 use crate::jobs::JOBS;
@@ -23,7 +26,8 @@ impl Counts {
     pub fn table(&self) -> String {
         let jobs: String = JOBS.iter().map(|job| self.table_of_job(job)).collect();
         let machines = self.table_of_phases() + &self.table_of_waits() + &self.table_of_banks();
-        self.table_of_entries() + &machines + &self.table_of_faults() + &jobs
+        let tables = self.table_of_stretches() + &self.table_of_told_jobs();
+        self.table_of_entries() + &machines + &self.table_of_faults() + &tables + &jobs
     }
 
     fn table_of_entries(&self) -> String {
@@ -135,6 +139,35 @@ impl Counts {
         for (part, number) in PARTS.into_iter().flat_map(numbers) {
             let name = format!("   {part:?} {number}");
             text += &row(&name, &|byte| self.of_or_dash(Count::Fault(part, number, byte)));
+        }
+        text
+    }
+
+    fn table_of_stretches(&self) -> String {
+        let met = TABLED.iter().map(|&met| format!("{met:?} {}", self.of(Count::Table(met))));
+        let edges =
+            EDGES.map(|edge| format!("{edge:?} {}", self.of(Count::Told(Told::Edge(edge)))));
+        let lines = |all: Vec<String>| -> String {
+            all.chunks(6).map(|some| format!("   {}\n", some.join(", "))).collect()
+        };
+        let [met, edges] = [lines(met.collect()), lines(edges.into())];
+        format!("\ntables\n{met}tables just refused\n{edges}")
+    }
+
+    /// Of a job that cannot stand there, a dash.
+    fn table_of_told_jobs(&self) -> String {
+        let places = PLACES.map(|place| format!("{place:?}"));
+        let sides = SIDES.map(|side| format!("{side:?}"));
+        let mut text = row("told, and of a job", [places, sides].concat());
+        let times = |told| self.of_or_dash(Count::Told(told));
+        for number in OF_JOB {
+            let alone = PLACES.map(|place| times(Told::Alone(number, place)));
+            text += &row(&format!("   {number} alone"), alone.into());
+        }
+        for (told, number, ..) in HOLDING {
+            let places = PLACES.map(|place| times(Told::Holding(told, number, place)));
+            let sides = SIDES.map(|side| times(Told::Beside(told, number, side)));
+            text += &row(&format!("   {told}, {number}"), [places, sides].concat());
         }
         text
     }

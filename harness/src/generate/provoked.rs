@@ -30,6 +30,11 @@ impl Provoked {
         })
     }
 
+    /// Two of these.
+    pub fn two(random: &mut Random, numbers: &[u8]) -> Provoked {
+        Provoked(vec![random.pick(numbers), random.pick(numbers)])
+    }
+
     pub fn has(&self, number: u8) -> bool {
         self.0.contains(&number)
     }

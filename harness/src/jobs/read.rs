@@ -64,7 +64,13 @@ impl Job for Read {
         late_opening(&self.cdm, &self.cds, random)
     }
 
-    fn check_further(&self, left: &Read, made: usize, calls: &impl Calls) -> Result<(), String> {
+    fn check_further(
+        &self,
+        left: &Read,
+        outcome: Outcome,
+        calls: &impl Calls,
+    ) -> Result<(), String> {
+        let Made(made) = outcome else { return Ok(()) };
         let list = left.list(made);
         self.reopened(list).try_for_each(|entry| self.open_at_frame(list, entry, calls))
     }
@@ -181,7 +187,7 @@ fn bare(list: &[u8]) -> Vec<u8> {
     bare
 }
 
-fn printed(list: &[u8]) -> String {
+pub fn printed(list: &[u8]) -> String {
     let mut text = vec![0; printed_at_most(list.len() / ENTRY_BYTES)];
     match model::list_to_text(list, &mut text) {
         Made(bytes) => String::from_utf8_lossy(&text[..bytes]).to_string(),

@@ -6,7 +6,7 @@ use crate::library::biss::{self, answer, Answer, Refusal};
 use model::entry::{ADDRESS, BANK, COLUMN, ENTRY_BYTES, ID, KIND, NO_BANK_YET, START, VALUE};
 use model::frame::BANK_REGISTER;
 use model::list::printed_at_most;
-use model::rows::ZEROS_TO_REST;
+use model::rows::{MOST_COLUMNS, ZEROS_TO_REST};
 
 const BISS_H: &str = include_str!("../../../include/biss.h");
 
@@ -21,9 +21,12 @@ const REFUSED: u64 = 1 << 63;
 const LINE: u64 = 512;
 const BYTE: u64 = 64;
 const LAST_LINE: usize = (1 << 53) - 1;
+const OF_JOB: u64 = REFUSED + (1 << 62);
+const JOB: u64 = 64;
+const LAST_JOB: usize = (1 << 56) - 1;
 
 /// Codes put together by hand, and what they say.
-const CODES: [(u64, Answer); 11] = [
+const CODES: [(u64, Answer); 16] = [
     (0, Ok(0)),
     (46, Ok(46)),
     (REFUSED - 1, Ok((1 << 63) - 1)),
@@ -35,10 +38,19 @@ const CODES: [(u64, Answer); 11] = [
     (REFUSED + 812 * LINE + BYTE + 15, in_text(15, 812, 1)),
     (REFUSED + LINE + 7 * BYTE + 17, in_text(17, 1, 7)),
     (REFUSED + LAST_LINE as u64 * LINE + 3 * BYTE + 16, in_text(16, LAST_LINE, 3)),
+    (REFUSED + 32, Err(Refusal::Number(32))),
+    (OF_JOB + 20, of_job(20, 0)),
+    (OF_JOB + JOB + 5, of_job(5, 1)),
+    (OF_JOB + 2999 * JOB + 8, of_job(8, 2999)),
+    (OF_JOB + LAST_JOB as u64 * JOB + 7, of_job(7, LAST_JOB)),
 ];
 
 const fn in_text(number: u8, line: usize, byte: usize) -> Answer {
     Err(Refusal::InText { number, line, byte })
+}
+
+const fn of_job(number: u8, job: usize) -> Answer {
+    Err(Refusal::OfJob { number, job })
 }
 
 fn codes(card: &mut Card) {
@@ -47,13 +59,19 @@ fn codes(card: &mut Card) {
     }
     let tab = Refusal::InText { number: 15, line: 812, byte: 1 };
     card.same("a tab", tab.to_string().as_str(), "line 812, byte 1: tab missing");
+    card.same("a tab has no job", tab.job(), None);
+    let outside = Refusal::OfJob { number: 20, job: 0 };
+    card.same("a job", outside.to_string().as_str(), "job 0: a stretch outside the rows");
+    card.same("its number and itself", (outside.number(), outside.job()), (20, Some(0)));
 }
 
-/// The wrapper has the words of the table in biss.h; 11 is given no more.
+/// The wrapper has the words of the table in biss.h; 11 is given no more, 21 to 31 are not
+/// given yet.
 fn words(card: &mut Card) {
-    for number in 1..=19 {
+    for number in 1..=33 {
         let row = format!(" {number:>2}  {}", Refusal::Number(number));
-        card.same(&row, BISS_H.contains(&row), number != 11);
+        let is_given = !matches!(number, 11 | 21..=31 | 33);
+        card.same(&row, BISS_H.contains(&row), is_given);
     }
 }
 
@@ -61,6 +79,7 @@ fn words(card: &mut Card) {
 fn layout(card: &mut Card) {
     let line = printed_at_most(1) - printed_at_most(0);
     card.same("bytes of an entry", biss::ENTRY_BYTES, ENTRY_BYTES);
+    card.same("columns of a row", biss::MOST_COLUMNS, MOST_COLUMNS);
     card.same("bytes of a list's header", biss::LIST_HEADER_BYTES, printed_at_most(0));
     card.same("bytes of the longest line", biss::LIST_LINE_BYTES, line);
     card.same("zeros before S", biss::REST, ZEROS_TO_REST);
@@ -89,12 +108,14 @@ fn layout(card: &mut Card) {
     }
 }
 
-/// The wrapper takes a list apart into its entries.
+/// The wrapper takes a list apart into its entries, and puts them together again.
 fn entries(card: &mut Card) {
     let list = [[11, 2, 16, 1, 242, 3, 16, 2, 90], [15, 15, 255, 15, 14, 0, 0, 0, 0]].concat();
     let wanted = vec![
         biss::Entry { kind: 11, column: 528, start: 498, id: 3, address: 16, bank: 2, value: 90 },
         biss::Entry { kind: 15, column: 4095, start: 3854, id: 0, address: 0, bank: 0, value: 0 },
     ];
+    let again: Vec<u8> = wanted.iter().flat_map(|entry| entry.bytes()).collect();
     card.same("entries of a list", biss::entries(&list).collect(), wanted);
+    card.same("their bytes", again, list);
 }
