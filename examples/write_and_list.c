@@ -2,38 +2,10 @@
  * What was recorded is read back as a list and printed; opened late, at the frame of that write, it no longer tells the bank. The rows are
  * carried to text and back. One text and three calls are refused. Then channel places in a chain of three. Every answer is checked: the
  * program ends with 1 where one is not as expected. */
-#include "../include/biss.h"
-
-#include <stdio.h>
-#include <stdlib.h>
-#include <string.h>
+#include "example.h"
 
 /* The slave's banks, one after the other, and then its fixed registers. */
 enum { BANKS = 4, REGISTERS = 64 * (BANKS + 1) };
-
-static void expect(int holds, const char *what) {
-    if (!holds) {
-        fprintf(stderr, "not so: %s\n", what);
-        exit(1);
-    }
-}
-
-/* Buffers from the heap, exactly as long as is said, so that a memory checker sees every byte beside them. */
-static uint8_t *lent(size_t length, uint8_t filled) {
-    uint8_t *buffer = malloc(length);
-    expect(buffer != NULL, "there is memory");
-    memset(buffer, filled, length);
-    return buffer;
-}
-
-static void print_list(const uint8_t *list, size_t entries) {
-    size_t most = BISS_LIST_HEADER_BYTES + BISS_LIST_LINE_BYTES * entries;
-    uint8_t *text = lent(most, 0);
-    uint64_t bytes = biss_list_to_text(list, BISS_ENTRY_BYTES * entries, text, most);
-    expect(!biss_is_refused(bytes), "a list that was read can be printed");
-    fwrite(text, 1, bytes, stdout);
-    free(text);
-}
 
 /* Five entries: the locks, the choice of the bank and the end of that frame; the locks, and the byte written in the bank. A reader that
  * opens at the frame of the write has not seen the choice. */
@@ -66,6 +38,7 @@ static void carry_rows(const uint8_t *cdm, const uint8_t *cds, size_t columns) {
     uint64_t answer = biss_text_to_rows(text, bytes, cdm_back, columns, cds_back, columns);
     expect(biss_is_refused(answer) && biss_refusal(answer) == 14, "a 2 is no bit");
     expect(biss_line(answer) == columns + 1 && biss_byte(answer) == 2, "it is the second digit of the last line");
+    expect(!biss_tells_job(answer) && biss_job(answer) == 0, "and it tells no job");
     expect(cdm_back[0] == 7 && cds_back[columns - 1] == 7, "a refused text changes nothing");
     printf("a text with a 2: refusal %u, line %u, byte %u\n", biss_refusal(answer), (unsigned)biss_line(answer), biss_byte(answer));
     text[bytes - 2] = '0' + cds[columns - 1];

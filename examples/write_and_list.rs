@@ -5,18 +5,13 @@
 #[path = "../include/biss.rs"]
 #[allow(dead_code)]
 mod biss;
-use biss::{ChannelPlace, Entry, Refusal, BANK_REGISTER, NO_BANK_YET};
-use biss::{ENTRY_BYTES, LIST_HEADER_BYTES, LIST_LINE_BYTES, REST};
+mod print_list;
+use biss::{ChannelPlace, Entry, Refusal, BANK_REGISTER, ENTRY_BYTES, NO_BANK_YET, REST};
+use print_list::print_list;
 
 /// The slave's banks, one after the other, and then its fixed registers.
 const BANKS: usize = 4;
 const REGISTERS: usize = 64 * (BANKS + 1);
-
-fn print_list(list: &[u8]) {
-    let mut text = vec![0; LIST_HEADER_BYTES + LIST_LINE_BYTES * (list.len() / ENTRY_BYTES)];
-    let bytes = biss::list_to_text(list, &mut text).expect("a list that was read can be printed");
-    print!("{}", String::from_utf8_lossy(&text[..bytes]));
-}
 
 fn main() {
     let mut row = [0; 4096];
