@@ -65,8 +65,8 @@ built-fits {r} {out} built h =
     end-fits (built .ends) (omega arith)
     (λ e. let fits : length (Build.made r) ≤ length out = ltb-false _ _ (no 9 _ e) in omega arith)
 
-pub ran-fits : {slaves : ℕ} {table rights waits registers cdm cds : List ℕ} {outcome : Outcome} {registers′ cds′ : List ℕ}
-    → Ran slaves table rights waits registers cdm cds outcome registers′ cds′ → Fits (told outcome)
+pub ran-fits : {slaves : ℕ} {table rights waits registers counts cdm cds : List ℕ} {outcome : Outcome} {registers′ counts′ cds′ : List ℕ}
+    → Ran slaves table rights waits registers counts cdm cds outcome registers′ counts′ cds′ → Fits (told outcome)
 unfolding Run.refusals Run.sizeRefusals wrongRow rowRules
 ran-fits {cdm} ran =
     end-fits (ran .ends) (omega arith)

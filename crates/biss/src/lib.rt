@@ -68,12 +68,12 @@ pub extern "C" fn biss_build_write(
     coded(build::build_write(id, address, bytes, wait, out))
 }
 
-// The master row of a command.
+// The master row of a command up to its EX, which is sent as asked.
 #[no_mangle]
-pub extern "C" fn biss_build_command(ids: u8, cmd: u8, out: &mut [u8]) -> u64
-    ensures { λ r. ⌜ Coded r (λ o. Built (Request.command ids cmd) (now (out .entry)) o (now (out .exit))) ⌝ }
+pub extern "C" fn biss_build_command(ids: u8, cmd: u8, execute: bool, out: &mut [u8]) -> u64
+    ensures { λ r. ⌜ Coded r (λ o. Built (Request.command ids cmd execute) (now (out .entry)) o (now (out .exit))) ⌝ }
 {
-    coded(build::build_command(ids, cmd, out))
+    coded(build::build_command(ids, cmd, execute, out))
 }
 
 // A chain of slaves over a master row from power-on.
@@ -84,12 +84,13 @@ pub extern "C" fn biss_run(
     rights: &[u8],
     waits: &[u8],
     registers: &mut [u8],
+    counts: &mut [u32],
     cdm: &[u8],
     cds: &mut [u8],
 ) -> u64
-    ensures { λ r. ⌜ Coded r (λ o. Ran slaves (now (banks .entry)) (now (rights .entry)) (now (waits .entry)) (now (registers .entry)) (now (cdm .entry)) (now (cds .entry)) o (now (registers .exit)) (now (cds .exit))) ⌝ }
+    ensures { λ r. ⌜ Coded r (λ o. Ran slaves (now (banks .entry)) (now (rights .entry)) (now (waits .entry)) (now (registers .entry)) (now (counts .entry)) (now (cdm .entry)) (now (cds .entry)) o (now (registers .exit)) (now (counts .exit)) (now (cds .exit))) ⌝ }
 {
-    coded(run::run(slaves, banks, rights, waits, registers, cdm, cds))
+    coded(run::run(slaves, banks, rights, waits, registers, counts, cdm, cds))
 }
 
 // The entries that two recorded rows show, from an opening column on.

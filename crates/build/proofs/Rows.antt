@@ -1,5 +1,5 @@
--- The rows of Building, cut into the parts that the code lays: 32 columns and then each byte's, or thirty for a command; and how long
--- they are. Assumes nothing.
+-- The rows of Building, cut into the parts that the code lays: 32 columns and then each byte's, or thirty and then S to EX for a command;
+-- and how long they are. Assumes nothing.
 use mathlib.Core.Path.{_≡_, refl, ap, _∙_}
 use mathlib.Core.Bool.{Bool, true, false, not}
 use mathlib.Core.List.{List, [], _∷_, _++_, map, append-assoc}
@@ -7,17 +7,20 @@ use Prim.Native.Nat.{ℕ, zero, suc, _+_, _-_, _*_, _^_, _≤_, _<_}
 use native.Mathlib.Nat.{mul-comm, mul-suc, add-mul}
 use native.Mathlib.Numerals.{add-one}
 use native.Mathlib.Omega.{arith}
-use borrow.Author.Tests.{ne-eqb}
-use lib.ListN.{length, length-append, length-map, length-replicate, getD, getD-replicate, List·getD-map, drop, drop-of-length-le, replicate}
+use borrow.Author.Tests.{eq-eqb, ne-eqb}
+use lib.ListN.{length, length-append, length-map, length-replicate, getD, getD-replicate, List·getD-map}
+use lib.ListN.{drop, drop-of-length-le, replicate}
 use lib.Seq.{append-snoc, drop-cons, sets, length-sets}
 use Rattle.laws.proofs.Every.{Every}
 use Rattle.protocol.specs.Bits.{num, bit, bits}
 use Rattle.protocol.specs.Division.{headerBits, dataBits, topBit, check, word}
 use Rattle.protocol.specs.Header.{accessWord, commandWord}
+use Rattle.protocol.specs.Commands.{executeColumn}
 use Rattle.protocol.specs.Memory.{delayBy}
-use Rattle.protocol.specs.Building.{Request, read, write, command, byteColumns, readBits, writeBits, frameOf, rowFor}
+use Rattle.protocol.specs.Building.{Request, read, write, command, byteColumns, readBits, writeBits, commandColumns, frameOf, rowFor}
 use Rattle.protocol.specs.Understood.{delayed}
-use Rattle.protocol.proofs.Words.{bits-append, length-bits, word-lt}
+use Rattle.protocol.proofs.Words.{num-lt, bits-append, length-bits, word-lt}
+use Rattle.protocol.proofs.Commands.{execute-late}
 use Rattle.build.specs.Build.{made}
 use Rattle.build.specs.Parts.{lead, way, accessLead, readColumns, writeColumns, Laid}
 use Rattle.build.proofs.Columns.{part-laid}
@@ -158,7 +161,7 @@ writes-twelve : (vs : List ℕ) → Twelves (map writeBits vs)
 writes-twelve [] = tt
 writes-twelve (v ∷ vs) = (length-bits (topBit + 1) (word dataBits v), writes-twelve vs)
 
--- A row of an access is its first 32 columns and the bytes, that of a command its lead.
+-- A row of an access is its first 32 columns and the bytes, that of a command its lead and the columns from its S to EX.
 pub made-read : (id address count wait : ℕ)
     → made (read id address count wait) ≡ map num (accessLead false id address) ++ map num (readColumns count wait)
 unfolding accessLead lead made rowFor frameOf bits byteColumns
@@ -169,9 +172,34 @@ pub made-write : (id address : ℕ) (vs : List ℕ) (wait : ℕ)
 unfolding accessLead lead made rowFor frameOf bits byteColumns
 made-write id address vs wait = refl
 
-pub made-command : (ids cmd : ℕ) → made (command ids cmd) ≡ map num (lead (commandWord ids cmd))
-unfolding lead made rowFor frameOf
-made-command ids cmd = refl
+pub made-command : (ids cmd : ℕ) (execute : Bool)
+    → made (command ids cmd execute) ≡ map num (lead (commandWord ids cmd) ++ commandColumns ids execute)
+unfolding lead made rowFor frameOf bits
+made-command ids cmd execute = refl
+
+-- The columns from a command's S to EX, as bits of one number ..
+tail : (execute : Bool)
+    → (bits 2 (2 + num execute) ≡ true ∷ execute ∷ []) × (bits 9 (256 + num execute) ≡ true ∷ replicate 7 false ++ execute ∷ [])
+unfolding bits bit
+tail true = (refl, refl)
+tail false = (refl, refl)
+
+-- .. behind those of its header.
+module _ (ids start : ℕ) (execute : Bool) where
+  pub broadcast-bits : ids ≡ 0 → bits (30 + (executeColumn ids + 1)) (4 * start + 2 + num execute) ≡ bits 30 start ++ commandColumns ids execute
+  unfolding executeColumn
+  broadcast-bits e =
+      let parts : 4 * start + 2 + num execute ≡ start * 2 ^ 2 + (2 + num execute) = omega arith in
+      rw (eq-eqb ids 0 e, parts)
+      (bits-append 30 2 start (omega (arith, num-lt execute)) ∙ ap (λ (l : List Bool). bits 30 start ++ l) (tail execute .0))
+
+  pub addressed-bits : (ids ≡ 0 → ⊥)
+      → bits (30 + (executeColumn ids + 1)) (512 * start + 256 + num execute) ≡ bits 30 start ++ commandColumns ids execute
+  unfolding executeColumn
+  addressed-bits h =
+      let parts : 512 * start + 256 + num execute ≡ start * 2 ^ 9 + (256 + num execute) = omega arith in
+      rw (ne-eqb ids 0 h, parts)
+      (bits-append 30 9 start (omega (arith, num-lt execute)) ∙ ap (λ (l : List Bool). bits 30 start ++ l) (tail execute .1))
 
 module _ (writing : Bool) (id address : ℕ) where
   pub length-lead : length (map num (accessLead writing id address)) ≡ 32
@@ -187,7 +215,7 @@ pub all-but-first : (n : ℕ) → delayed true n ≡ n - 1
 all-but-first zero = refl
 all-but-first (suc n) = omega arith
 
--- Read of n bytes: 32 + (14 + wait) n columns; write: 32 + 14 n + wait (n - 1), and of no byte 32; a command 30.
+-- Read of n bytes: 32 + (14 + wait) n columns; write: 32 + 14 n + wait (n - 1), and of no byte 32; a command 30 and S to EX.
 pub length-read : (id address count wait : ℕ) → length (made (read id address count wait)) ≡ 32 + (14 + wait) * count
 length-read id address count wait =
     length-access false id address _ (readColumns count wait) (made-read id address count wait)
@@ -199,6 +227,11 @@ length-write id address vs wait =
     length-access true id address _ (writeColumns vs wait) (made-write id address vs wait)
     ∙ rw (length-bytes true wait (map writeBits vs) (writes-twelve vs), length-map vs writeBits, all-but-first) (omega arith)
 
-pub length-command : (ids cmd : ℕ) → length (made (command ids cmd)) ≡ 30
+length-header : (v : ℕ) → length (lead v) ≡ 30
 unfolding lead bits
-length-command ids cmd = rw (made-command ids cmd)
+length-header v = refl
+
+pub length-command : (ids cmd : ℕ) (execute : Bool) → length (made (command ids cmd execute)) ≡ 30 + (executeColumn ids + 1)
+length-command ids cmd execute =
+    rw (made-command ids cmd execute, length-map, length-append, length-header, length-append, length-replicate)
+    (omega (arith, execute-late ids))

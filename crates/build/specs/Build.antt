@@ -4,7 +4,7 @@ use mathlib.Core.List.{List, [], _∷_, map}
 use Prim.Native.Nat.{ℕ, _+_, _-_}
 use lib.Dec.{ltb, eqb}
 use lib.ListN.{length}
-use Rattle.protocol.specs.Limits.{columnLimit, idCount, addressCount, byteLimit}
+use Rattle.protocol.specs.Limits.{columnLimit, idCount, addressCount, byteLimit, commandCount}
 use Rattle.protocol.specs.Bits.{num}
 use Rattle.protocol.specs.Building.{Request, read, write, command, rowFor}
 use Rattle.job.specs.Refusals.{Rule, when, lent, Ended}
@@ -20,7 +20,7 @@ outsideAccess id address count =
 unfoldable pub outside : Request → Bool
 outside (read id address count wait) = outsideAccess id address count
 outside (write id address bytes wait) = outsideAccess id address (length bytes)
-outside (command ids cmd) = ltb 3 cmd
+outside (command ids cmd execute) = ltb (commandCount - 1) cmd
 
 -- The row's bytes, a column each.
 unfoldable pub made : Request → List ℕ

@@ -8,7 +8,8 @@ ghost use lib.ListN.{length, replicate};
 ghost use lib.Seq.{sets};
 ghost use Rattle.protocol.specs.Bits.{num, bits};
 ghost use Rattle.protocol.specs.Division.{headerBits, dataBits, check, word};
-ghost use Rattle.protocol.specs.Building.{Request};
+ghost use Rattle.protocol.specs.Commands.{executeColumn};
+ghost use Rattle.protocol.specs.Building.{Request, commandColumns};
 ghost use Rattle.protocol.specs.Understood.{delayed};
 ghost use Rattle.job.specs.Refusals.{first, given};
 ghost use Rattle.build.specs.Build.{outsideAccess, refusals, Built};
@@ -28,22 +29,31 @@ const BYTES: usize = 64;
 
 const ADDRESSES: usize = 128;
 
-// "Reading n bytes takes 32 + 14n columns, writing n lent bytes likewise, a command 30" (01, Building), and S again where a byte waits.
+// "Reading n bytes takes 32 + 14n columns, writing n lent bytes likewise" (01, Building), and S again where a byte waits.
 const ACCESS: usize = 32;
 
 const BYTE: usize = 14;
 
+// "a command 30" (01, Building): its header; and behind it its own S and EX, with seven columns between where it is addressed (Request 07).
 const COMMAND: usize = 30;
+
+const ADDRESSED: usize = 9;
+
+const BROADCAST: usize = 2;
 
 // R and W as one number: R = 1, W = 0 reads; R = 0, W = 1 writes.
 const READS: u64 = 2;
 
 const WRITES: u64 = 1;
 
-// S in front of a header's fifteen bits, and in front of a byte's twelve bits and P.
+// S in front of a header's fifteen bits, in front of a byte's twelve bits and P, and in front of the columns up to EX.
 const HEADER_START: u64 = 32768;
 
 const BYTE_START: u64 = 8192;
+
+const ADDRESSED_START: u64 = 256;
+
+const BROADCAST_START: u64 = 2;
 
 // Read `count` registers of the slave `id`, from `address` on; `wait` is that slave's waiting number.
 pub fn build_read(id: u8, address: u8, count: usize, wait: u8, out: &mut [u8]) -> Outcome
@@ -69,19 +79,46 @@ pub fn build_write(id: u8, address: u8, bytes: &[u8], wait: u8, out: &mut [u8]) 
     Outcome::Made(n)
 }
 
-// Send the command `cmd` to the slaves that `ids` selects, all of them where it is 0.
-pub fn build_command(ids: u8, cmd: u8, out: &mut [u8]) -> Outcome
-    ensures { λ r. ⌜ Built (Request.command ids cmd) (now (out .entry)) r (now (out .exit)) ⌝ }
+// Send the command `cmd` to the slaves that `ids` selects, all of them where it is 0, and execute it or not. Its first 30 columns are the
+// header alone.
+pub fn build_command(ids: u8, cmd: u8, execute: bool, out: &mut [u8]) -> Outcome
+    ensures { λ r. ⌜ Built (Request.command ids cmd execute) (now (out .entry)) r (now (out .exit)) ⌝ }
 {
     if LAST_COMMAND < cmd {
         return Outcome::Refused(10, Detail::Alone);
     }
-    if out.len() < COMMAND {
+    let behind = behind_header(ids);
+    if out.len() < COMMAND + behind {
         return Outcome::Refused(9, Detail::Alone);
     }
     let start = frame_head(ids as u16 * 4 + cmd as u16);
-    let n = put_bits(out, 0, COMMAND, start);
+    let n = put_bits(out, 0, COMMAND + behind, up_to_execute(ids, start, execute));
     Outcome::Made(n)
+}
+
+// How many columns a command takes behind its header.
+fn behind_header(ids: u8) -> usize
+    ensures { λ r. ⌜ (r ≡ executeColumn ids + 1) × (r ≤ 9) ⌝ }
+{
+    if ids == 0 { BROADCAST } else { ADDRESSED }
+}
+
+// Behind the header S, zeros up to EX, and EX: all of it as one number.
+fn up_to_execute(ids: u8, start: u64, execute: bool) -> u64
+    requires { ⌜ start < 2 ^ 16 ⌝ }
+    ensures { λ r. ⌜ bits (30 + (executeColumn ids + 1)) r ≡ bits 30 start ++ commandColumns ids execute ⌝ }
+{
+    if ids == 0 {
+        4 * start + BROADCAST_START + bit_of(execute)
+    } else {
+        512 * start + ADDRESSED_START + bit_of(execute)
+    }
+}
+
+fn bit_of(b: bool) -> u64
+    ensures { λ r. ⌜ (r ≡ num b) × (r < 2) ⌝ }
+{
+    if b { 1 } else { 0 }
 }
 
 // Returns why a register access of so many bytes is refused; where it is not, returns 0 and puts its first 32 columns.
@@ -233,7 +270,7 @@ fn put_ones(out: &mut [u8], at: usize, n: usize) -> usize
 
 // Puts the lowest n bits of w at `at`, highest first, a column each, and returns the column behind them.
 fn put_bits(out: &mut [u8], at: usize, n: usize, w: u64) -> usize
-    requires { ⌜ (at + n ≤ length (now out)) × (n ≤ 32) ⌝ }
+    requires { ⌜ (at + n ≤ length (now out)) × (n ≤ 64) ⌝ }
     ensures { λ r. ⌜ (r ≡ at + n) × (now (out .exit) ≡ sets (now (out .entry)) at (map num (bits n w))) ⌝ }
 {
     let mut left = n;

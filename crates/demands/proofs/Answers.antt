@@ -13,9 +13,13 @@ use Rattle.protocol.specs.Chain.{switchedOn, answersFrom, memoriesAfter}
 use Rattle.protocol.specs.Reader.{columns, listFrom}
 use Rattle.protocol.specs.Account.{account}
 use Rattle.protocol.specs.Banks.{bare}
-use Rattle.protocol.specs.Replay.{replay, Shows, Rightful, BanksStand}
+use Rattle.protocol.specs.Pieces.{joined}
+use Rattle.protocol.specs.Entries.{Entry}
+use Rattle.protocol.specs.Replay.{replay, executions, Shows, Rightful, BanksStand}
+use Rattle.laws.proofs.Every.{Every}
 use Rattle.protocol.proofs.Memories.{Bytes}
 use Rattle.protocol.proofs.Rows.{answers-length}
+use Rattle.protocol.proofs.Counts.{executions-long, executions-few}
 use Rattle.protocol.proofs.Demands as protocol
 use Rattle.job.specs.Refusals.{first, lent, lentAfter}
 use Rattle.job.specs.Rows.{wrongRows}
@@ -23,10 +27,10 @@ use Rattle.job.specs.declared.Outcome.the-variants.{Made}
 use Rattle.job.proofs.Bits.{num-bits}
 use Rattle.job.proofs.Refusals.{was-made, laid-whole}
 use Rattle.job.proofs.Rows.{not-wrong}
-use Rattle.run.specs.Run.{memoriesOf, registersOf, refusals, Ran}
+use Rattle.run.specs.Run.{memoriesOf, registersOf, countsOf, refusals, Ran}
 use Rattle.run.specs.Parts.{Holds}
 use Rattle.run.proofs.Rows.{row-num}
-use Rattle.run.proofs.Ends.{held, short-row, same-rows, master-bits}
+use Rattle.run.proofs.Ends.{right-table, held, short-row, same-rows, master-bits}
 use Rattle.read.specs.Read as Read
 use Rattle.protocol.specs.Layout.{current, entryBytes}
 use Rattle.protocol.proofs.Codec.{length-list}
@@ -34,19 +38,19 @@ use Rattle.read.specs.Read.{rowsRefusals, listOf}
 use Rattle.read.proofs.Left.{length-listed}
 use Rattle.read.proofs.Ends.{rows-good, not-refused}
 use Rattle.demands.specs.Lent.{areBytes}
-use Rattle.demands.proofs.Chains.{memories-bytes, memories-paired, registers-back, replay-length}
+use Rattle.demands.proofs.Chains.{memories-bytes, memories-paired, memories-uncounted, memories-many, counts-joined, registers-back, replay-length}
 
-module _ {slaves c : ℕ} {table rights waits registers cdm cds registers′ cds′ : List ℕ}
-    (ran : Ran slaves table rights waits registers cdm cds (Made c) registers′ cds′) where
+module _ {slaves c : ℕ} {table rights waits registers counts cdm cds registers′ counts′ cds′ : List ℕ}
+    (ran : Ran slaves table rights waits registers counts cdm cds (Made c) registers′ counts′ cds′) where
   -- The chain's memories as they were lent.
   abbrev chain : List Memory
   chain = memoriesOf table registers rights waits
 
-  through : first (refusals slaves table (length registers) rights (length waits) cdm (length cds)) ≡ none
+  through : first (refusals slaves table (length registers) rights (length waits) (length counts) cdm (length cds)) ≡ none
   through = was-made (ran .ends) .0
 
-  holds : Holds table registers rights waits
-  holds = held slaves table registers rights waits cdm cds through
+  holds : Holds table registers rights waits counts
+  holds = held slaves table registers rights waits counts cdm cds through
 
   answers-long : length (map num (answersFrom chain (rowOf cdm))) ≡ length cdm
   unfolding answersFrom rowOf
@@ -57,7 +61,7 @@ module _ {slaves c : ℕ} {table rights waits registers cdm cds registers′ cds
   pub row-bytes : cds′ ≡ map num (answersFrom chain (rowOf cdm))
   row-bytes =
       let row-after : cds′ ≡ lentAfter none (lent (map num (answersFrom chain (rowOf cdm))) cds) = cc (was-made (ran .ends) .2) in
-      row-after ∙ sym (laid-whole _ cds (answers-long ∙ sym (same-rows slaves table registers rights waits cdm cds through)))
+      row-after ∙ sym (laid-whole _ cds (answers-long ∙ sym (same-rows slaves table registers rights waits counts cdm cds through)))
 
   row-answers : rowOf cds′ ≡ answersFrom chain (rowOf cdm)
   row-answers = ap rowOf row-bytes ∙ row-num (answersFrom chain (rowOf cdm))
@@ -69,9 +73,9 @@ module _ {slaves c : ℕ} {table rights waits registers cdm cds registers′ cds
   rows-right : (k : ℕ) → k ≤ length cdm → first (rowsRefusals cdm cds′ k) ≡ none
   rows-right k h =
       let right : first (wrongRows cdm cds′) ≡ none = not-wrong cdm cds′ (record {
-        short = short-row slaves table registers rights waits cdm cds through;
+        short = short-row slaves table registers rights waits counts cdm cds through;
         same = sym row-long;
-        cdm-bits = master-bits slaves table registers rights waits cdm cds through;
+        cdm-bits = master-bits slaves table registers rights waits counts cdm cds through;
         cds-bits = rw row-bytes (num-bits (answersFrom chain (rowOf cdm)));
       }) in
       sym (rows-good cdm cds′ k {why = 0} (sym right) refl h)
@@ -121,3 +125,24 @@ module _ {slaves c : ℕ} {table rights waits registers cdm cds registers′ cds
         let registers-after : registers′ ≡ lentAfter none (lent (registersOf (memoriesAfter chain (rowOf cdm))) registers)
         = cc (was-made (ran .ends) .2) in
         ap registersOf row-final ∙ laid-whole _ registers long ∙ sym registers-after
+
+    -- .. and its executions, counted, are the lent counts, all of them, as run left them.
+    pub row-counts : counts′ ≡ joined (executions slaves 0 (bare (listOf 0 cdm cds′)))
+    row-counts =
+        let table-long : length table ≡ slaves = right-table slaves table registers rights waits counts cdm cds through .0 in
+        let many : length chain ≡ slaves = memories-many table registers rights waits ∙ table-long in
+        let counted : countsOf (memoriesAfter chain (rowOf cdm)) ≡ joined (executions slaves 0 (bare (listOf 0 cdm cds′)))
+        = rw (counts-joined, row-list, ← many)
+        (ap joined (protocol.executions-are-counts chain (rowOf cdm) chain-bytes (memories-uncounted table registers rights waits))) in
+        let long : length (countsOf (memoriesAfter chain (rowOf cdm))) ≡ length counts
+        = rw (counted, executions-long) (omega (arith, holds .all-counts, table-long)) in
+        let counts-after : counts′ ≡ lentAfter none (lent (countsOf (memoriesAfter chain (rowOf cdm))) counts)
+        = cc (was-made (ran .ends) .2) in
+        counts-after ∙ sym (laid-whole _ counts long) ∙ counted
+
+    -- At most one entry falls in a column, so that no count is above the columns.
+    pub counts-few : Every (λ n. n ≤ length cdm) counts′
+    counts-few =
+        let entries : List Entry = bare (listOf 0 cdm cds′) in
+        let short : length entries ≤ length cdm = omega (arith, length-map (listOf 0 cdm cds′) (λ x. x .entry), length-listed 0 cdm cds′) in
+        rw row-counts (executions-few slaves 0 (length cdm) entries short)

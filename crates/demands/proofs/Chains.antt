@@ -1,8 +1,8 @@
 -- A chain's lent registers and its memories: bytes, as many as rights, there and back, as many after a replay, and alike where they may be
 -- read; and lent waits of 0. Assumes nothing.
-use mathlib.Core.Path.{_≡_, refl, _∙_}
+use mathlib.Core.Path.{_≡_, refl, ap, ap₂, _∙_}
 use mathlib.Core.Bool.{true}
-use mathlib.Core.List.{List, [], _∷_, head-eq-of-cons-eq, tail-eq-of-cons-eq}
+use mathlib.Core.List.{List, [], _∷_, _++_, map, head-eq-of-cons-eq, tail-eq-of-cons-eq}
 use Prim.Native.Nat.{ℕ, zero, suc, _+_, _*_, _^_, _≤_, _<_}
 use native.Mathlib.Omega.{arith}
 use borrow.Author.Tests.{ltb-true, ltb-false}
@@ -11,16 +11,19 @@ use lib.ListN.{length, take, drop, getD, take-append-drop, length-append, length
 use lib.Seq.{getD-take, getD-drop}
 use Rattle.protocol.specs.Limits.{bankSize}
 use Rattle.protocol.specs.Division.{dataBits}
-use Rattle.protocol.specs.Memory.{Memory, chosen, delay}
+use Rattle.protocol.specs.Commands.{concernsAt}
+use Rattle.protocol.specs.Memory.{Memory, chosen, delay, uncounted, counted}
+use Rattle.protocol.specs.Pieces.{joined}
 use Rattle.protocol.specs.Entries.{Kind, is, Event, Entry}
-use Rattle.protocol.specs.Replay.{storedAt, put, replay}
-use Rattle.laws.proofs.Every.{Every, tested}
+use Rattle.protocol.specs.Replay.{storedAt, byPlace, countedAt, put, replay}
+use Rattle.laws.proofs.Every.{Every, either, tested}
 use Rattle.protocol.proofs.Memories.{Bytes, stored-size}
 use Rattle.protocol.proofs.Rightful.{Paired}
 use Rattle.protocol.proofs.Twins.{Like, Alike}
 use Rattle.protocol.proofs.Waits.{Prompt}
+use Rattle.protocol.proofs.Counts.{Uncounted}
 use Rattle.job.proofs.Bits.{byte-at}
-use Rattle.run.specs.Run.{sizeOf, sizes, memoriesOf, registersOf}
+use Rattle.run.specs.Run.{sizeOf, sizes, memoriesOf, registersOf, countsOf}
 use Rattle.demands.specs.Lent.{areBytes, noneWaits, mayRead, DifferUnread, bankRegisters}
 
 -- A slave's own bytes are the buffer's, and past them nothing stands.
@@ -68,6 +71,25 @@ memories-paired [] registers rights waits e = tt
 memories-paired (b ∷ table) registers rights waits e =
     (simp (length-take, e), memories-paired table (drop (sizeOf b) registers) (drop (sizeOf b) rights) (drop 1 waits) (simp (length-drop, e)))
 
+-- As many slaves as the table has, each with counts of 0.
+pub memories-uncounted : (table registers rights waits : List ℕ) → Every Uncounted (memoriesOf table registers rights waits)
+unfolding memoriesOf
+memories-uncounted [] registers rights waits = tt
+memories-uncounted (b ∷ table) registers rights waits =
+    (refl, memories-uncounted table (drop (sizeOf b) registers) (drop (sizeOf b) rights) (drop 1 waits))
+
+pub memories-many : (table registers rights waits : List ℕ) → length (memoriesOf table registers rights waits) ≡ length table
+unfolding memoriesOf
+memories-many [] registers rights waits = refl
+memories-many (b ∷ table) registers rights waits =
+    ap suc (memories-many table (drop (sizeOf b) registers) (drop (sizeOf b) rights) (drop 1 waits))
+
+-- The counts of all memories in one table are those of each, joined.
+pub counts-joined : (ks : List Memory) → countsOf ks ≡ joined (map (λ k. k .counts) ks)
+unfolding countsOf joined
+counts-joined [] = refl
+counts-joined (k ∷ ks) = rw (counts-joined ks)
+
 -- The registers of all memories are the lent ones.
 pub registers-back : (table registers rights waits : List ℕ) → length registers ≡ sizes table
     → registersOf (memoriesOf table registers rights waits) ≡ registers
@@ -86,10 +108,20 @@ stored-length [] id address value = refl
 stored-length (k ∷ ks) zero address value = simp (length-append, stored-size k address value)
 stored-length (k ∷ ks) (suc id) address value = simp (length-append, stored-length ks id address value)
 
+-- .. and a count is no register.
+counted-registers : (ids cmd i : ℕ) (ks : List Memory) → registersOf (byPlace (countedAt ids cmd) i ks) ≡ registersOf ks
+unfolding byPlace registersOf counted
+counted-registers ids cmd i [] = refl
+counted-registers ids cmd i (k ∷ ks) =
+    ap₂ (λ (x y : List ℕ). x ++ y)
+    (either (λ (l : Memory). l .registers ≡ k .registers) (concernsAt ids i) {x = counted k cmd} {y = k} refl refl)
+    (counted-registers ids cmd (suc i) ks)
+
 put-length : (ks : List Memory) (e : Event) → length (registersOf (put ks e)) ≡ length (registersOf ks)
 unfolding put
 put-length ks e =
-    tested (is Kind.written e) (λ q. rw q (stored-length ks (e .id) (e .address) (e .value))) (λ q. rw q)
+    tested (is Kind.written e) (λ q. rw q (stored-length ks (e .id) (e .address) (e .value)))
+    (λ q. tested (is Kind.executed e) (λ x. rw (q, x) (ap length (counted-registers (e .value) (e .id) 0 ks))) (λ x. rw (q, x)))
 
 pub replay-length : (ks : List Memory) (es : List Entry) → length (registersOf (replay ks es)) ≡ length (registersOf ks)
 unfolding replay
@@ -99,8 +131,8 @@ replay-length ks (e ∷ es) = replay-length (put ks (e .event)) es ∙ put-lengt
 -- Registers that differ only where nothing may be read, and not in a bank register, make memories that are alike.
 module _ {rights registers registers′ : List ℕ} (differ : DifferUnread rights registers registers′) (b : ℕ) where
   first-alike : (wait : ℕ) → getD registers (bankSize * b) 0 ≡ getD registers′ (bankSize * b) 0
-      → Like (record { banks = b; registers = take (sizeOf b) registers; rights = take (sizeOf b) rights; wait = wait })
-      (record { banks = b; registers = take (sizeOf b) registers′; rights = take (sizeOf b) rights; wait = wait })
+      → Like (record { banks = b; registers = take (sizeOf b) registers; rights = take (sizeOf b) rights; wait = wait; counts = uncounted })
+      (record { banks = b; registers = take (sizeOf b) registers′; rights = take (sizeOf b) rights; wait = wait; counts = uncounted })
   unfolding chosen delay mayRead
   first-alike wait same =
       record {

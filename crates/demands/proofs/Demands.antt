@@ -18,6 +18,7 @@ use Rattle.protocol.specs.Replay.{replay, Shows, Rightful, BanksStand}
 use Rattle.protocol.specs.Late.{FirstFourteen, NoFourteen, fromColumn, Agrees, Started}
 use Rattle.protocol.specs.Text.{rowsText, listText, has, badLine, cdmOf, cdsOf}
 use Rattle.protocol.specs.Fault.{placeOf, formAt, faultLine}
+use Rattle.laws.proofs.Every.{Every}
 use Rattle.protocol.proofs.Codec.{bytes-list}
 use Rattle.protocol.proofs.Demands as protocol
 use Rattle.protocol.proofs.Text.{back-and-there}
@@ -33,16 +34,17 @@ use Rattle.print.proofs.Ends.{was-printed}
 use Rattle.list_text.specs.Lists.{ListPrinted}
 use Rattle.list_text.proofs.Lists.{list-none}
 use Rattle.rows_text.specs.RowsText.{RowsPrinted, RowsTaken}
-use Rattle.demands.specs.Lent.{areBytes, listIn, kindAt, placeAt, Reopened, isBreach, noneWaits, DifferUnread, bankRegisters}
+use Rattle.demands.specs.Lent.{areBytes, executionsIn, listIn, kindAt, placeAt, Reopened, isBreach, noneWaits, DifferUnread, bankRegisters}
 use Rattle.demands.proofs.Chains.{memories-prompt, all-alike}
 use Rattle.demands.proofs.Lists as list
 use Rattle.demands.proofs.Lists.{list-count, list-bytes, list-entries, list-empty, list-late, list-never, kind-at}
-use Rattle.demands.proofs.Answers.{row-bytes, rows-read, row-account, row-shows, row-rightful, row-banks, row-replay}
+use Rattle.demands.proofs.Answers.{row-bytes, rows-read, row-account, row-shows, row-rightful, row-banks, row-replay, row-counts, counts-few}
 use Rattle.demands.proofs.Texts.{rows-taken, was-told, printed-back, printed-taken}
 
 -- A run that was accepted, on registers lent as bytes, and the list that read made of the master row and the answer row alone.
-module _ {slaves c n : ℕ} {table rights waits registers cdm cds registers′ cds′ lent after : List ℕ} (bytes : areBytes registers ≡ true)
-    (ran : Ran slaves table rights waits registers cdm cds (Made c) registers′ cds′) (listed : Listed cdm cds′ 0 lent (Made n) after) where
+module _ {slaves c n : ℕ} {table rights waits registers counts cdm cds registers′ counts′ cds′ lent after : List ℕ}
+    (bytes : areBytes registers ≡ true)
+    (ran : Ran slaves table rights waits registers counts cdm cds (Made c) registers′ counts′ cds′) (listed : Listed cdm cds′ 0 lent (Made n) after) where
   -- "The list read from the two rows alone is the chain's own account, entry for entry": as many entries, and every byte of them.
   pub list-is-account : (n ≡ length (account (memoriesOf table registers rights waits) (rowOf cdm)))
       × (listIn n after ≡ listBytes current (account (memoriesOf table registers rights waits) (rowOf cdm)))
@@ -52,6 +54,15 @@ module _ {slaves c n : ℕ} {table rights waits registers cdm cds registers′ c
   -- replayed bank register".
   pub replay-is-final : registersOf (replay (memoriesOf table registers rights waits) (bare (entriesIn current (listIn n after)))) ≡ registers′
   replay-is-final = rw (list-entries listed) (row-replay ran bytes)
+
+  -- Request 07: "the listed executions, counted, are the chain's counts": those that run left, all of them; and each is at most as high as the
+  -- row has columns, so that 32 bits hold it.
+  pub executions-are-counts : executionsIn slaves (listIn n after) ≡ counts′
+  unfolding executionsIn
+  executions-are-counts = rw (list-entries listed) (sym (row-counts ran bytes))
+
+  pub counts-bounded : Every (λ count. count ≤ length cdm) counts′
+  counts-bounded = counts-few ran bytes
 
   -- "Each read shows the byte that stood there then": in the replay of the entries before it.
   pub reads-show : Shows (memoriesOf table registers rights waits) (bare (entriesIn current (listIn n after)))
@@ -65,7 +76,7 @@ module _ {slaves c n : ℕ} {table rights waits registers cdm cds registers′ c
   pub banks-named : BanksStand (λ id. false) (memoriesOf table registers rights waits) (entriesIn current (listIn n after))
   banks-named = rw (list-entries listed) (row-banks ran bytes)
 
-  -- No entry of the list is of a kind 2, 8, 12 or 14: only damaged rows show a breach ..
+  -- No entry of the list is of a kind 2, 8, 12, 14, 19 or 20: only damaged rows show a breach ..
   pub no-breaches : (place : ℕ) → place < n → isBreach (kindAt (listIn n after) place) ≡ false
   unfolding isBreach
   no-breaches place h =
@@ -81,8 +92,8 @@ module _ {slaves c n : ℕ} {table rights waits registers cdm cds registers′ c
       (protocol.no-mute _ (rowOf cdm) (memories-prompt table registers rights waits prompt)) (omega (arith, list-is-account .0)))
 
 -- Every accepted run has such a list: read refuses its two rows from no opening column in them, if an entry has room for each column.
-pub run-is-read : {slaves c k : ℕ} {table rights waits registers cdm cds registers′ cds′ lent after : List ℕ} {outcome : Outcome}
-    → Ran slaves table rights waits registers cdm cds (Made c) registers′ cds′ → Listed cdm cds′ k lent outcome after
+pub run-is-read : {slaves c k : ℕ} {table rights waits registers counts cdm cds registers′ counts′ cds′ lent after : List ℕ} {outcome : Outcome}
+    → Ran slaves table rights waits registers counts cdm cds (Made c) registers′ counts′ cds′ → Listed cdm cds′ k lent outcome after
     → k ≤ length cdm → entryBytes current * length cdm ≤ length lent → outcome ≡ Made (length (listOf k cdm cds′))
 run-is-read {k} {lent} ran listed opening room =
     ended-none (listed .ends) (rows-read ran k lent opening room)
@@ -120,8 +131,10 @@ module _ {cdm cds lent after : List ℕ} {k n : ℕ} (listed : Listed cdm cds k 
 
 -- "Two runs with the same rights and master row that differ only in registers without the read right give the same answer row": the banks,
 -- the waits and (Request 05) the bank registers are the same too.
-pub two-runs : {slaves c d : ℕ} {table rights waits cdm registers cds registers′ cds′ others row others′ row′ : List ℕ}
-    → Ran slaves table rights waits registers cdm cds (Made c) registers′ cds′ → Ran slaves table rights waits others cdm row (Made d) others′ row′
+pub two-runs : {slaves c d : ℕ}
+    {table rights waits cdm registers counts cds registers′ counts′ cds′ others tally row others′ tally′ row′ : List ℕ}
+    → Ran slaves table rights waits registers counts cdm cds (Made c) registers′ counts′ cds′
+    → Ran slaves table rights waits others tally cdm row (Made d) others′ tally′ row′
     → DifferUnread rights registers others → bankRegisters table registers ≡ bankRegisters table others → cds′ ≡ row′
 two-runs {table} {waits} {cdm} ran ran′ differ same =
     row-bytes ran ∙ ap (map num) (protocol.two-runs _ _ (rowOf cdm) (all-alike table waits differ same)) ∙ sym (row-bytes ran′)
@@ -172,8 +185,8 @@ module _ {text a b a′ b′ lent list room out : List ℕ} {c k n p : ℕ} (row
 
 -- All of it: a chain is run, its rows are written as text, the text is indexed, and what is printed is the chain's own account.
 pub account-is-printed : {slaves c d n m p : ℕ}
-    {table rights waits registers cdm cds registers′ cds′ lent written a b a′ b′ lent′ list room out : List ℕ} → areBytes registers ≡ true
-    → Ran slaves table rights waits registers cdm cds (Made c) registers′ cds′ → RowsPrinted cdm cds′ lent (Made m) written
+    {table rights waits registers counts cdm cds registers′ counts′ cds′ lent written a b a′ b′ lent′ list room out : List ℕ} → areBytes registers ≡ true
+    → Ran slaves table rights waits registers counts cdm cds (Made c) registers′ counts′ cds′ → RowsPrinted cdm cds′ lent (Made m) written
     → RowsTaken (take m written) a b (Made d) a′ b′ → Listed (take d a′) (take d b′) 0 lent′ (Made n) list
     → ListPrinted (listIn n list) room (Made p) out
     → take p out ≡ listText (account (memoriesOf table registers rights waits) (rowOf cdm))

@@ -11,6 +11,8 @@ use Rattle.protocol.specs.Limits.{bankSize}
 use Rattle.protocol.specs.Bits.{num, bit}
 use Rattle.protocol.specs.Entries.{Place, Entry}
 use Rattle.protocol.specs.Banks.{bare}
+use Rattle.protocol.specs.Pieces.{joined}
+use Rattle.protocol.specs.Replay.{executions}
 use Rattle.protocol.specs.Layout.{Field, current, entryBytes, fieldAt, entriesIn}
 use Rattle.protocol.specs.Late.{Agrees}
 use Rattle.job.specs.Bytes.{noneAbove}
@@ -42,6 +44,10 @@ placeAt list place =
 unfoldable pub bareAt : (list : List ℕ) → (place : ℕ) → Option Entry
 bareAt list place = getElem? (bare (entriesIn current list)) place
 
+-- Request 07: "the listed executions, counted": four counts a slave, far slave first, as run's table has them.
+unfoldable pub executionsIn : (slaves : ℕ) → (list : List ℕ) → List ℕ
+executionsIn slaves list = joined (executions slaves 0 (bare (entriesIn current list)))
+
 -- Request 02, "Open at the frame", of a list of n entries and one opened at the frame of its entry i: it was made, it agrees from some entry
 -- on, and entry i is in it, but for the bank.
 pub record Reopened (n i : ℕ) (list : List ℕ) (outcome : Outcome) (after : List ℕ) : Type 0 where
@@ -57,8 +63,9 @@ isOneOf [] n = false
 isOneOf (x ∷ xs) n = eqb n x || isOneOf xs n
 
 -- Entries, of the chain's account: "2, 8, 9, 12 and 14 never occur in it". Request 03: "`mute` may now stand in the chain's account."
+-- Request 07: honest chains make no acknowledgement fault.
 unfoldable pub isBreach : (kind : ℕ) → Bool
-isBreach kind = isOneOf (2 ∷ 8 ∷ 12 ∷ 14 ∷ []) kind
+isBreach kind = isOneOf (2 ∷ 8 ∷ 12 ∷ 14 ∷ 19 ∷ 20 ∷ []) kind
 
 -- Request 03, of a lent table of waits: no slave waits.
 unfoldable pub noneWaits : (waits : List ℕ) → Bool

@@ -7,7 +7,7 @@ use Prim.Native.Nat.{ℕ, zero, suc, _≤_, _<_}
 use native.Mathlib.Omega.{arith}
 use borrow.Author.Tests.{leb-true, leb-false, ne-eqb}
 use lib.Dec.{leb}
-use Rattle.protocol.specs.Entries.{Kind, closed, number, kinds, numbered}
+use Rattle.protocol.specs.Entries.{Kind, forced, number, kinds, numbered}
 use Rattle.protocol.proofs.Codec.{numbered-own}
 use Rattle.laws.proofs.Every.{tested, both}
 use Rattle.laws.proofs.Table.{below}
@@ -15,7 +15,7 @@ use Rattle.kinds.specs.Kinds.{isOne, isKind}
 
 -- The last kind's number.
 abbrev pub last : ℕ
-last = number closed
+last = number forced
 
 -- No number of a part of the table is past it.
 upToLast : List Kind → Bool

@@ -9,7 +9,7 @@ abbrev pub isOne : Option Kind → Bool
 isOne none = false
 isOne (some k) = true
 
--- Refusal 12: "a kind outside 1 to 16".
+-- Refusal 12: "a kind outside" the table; Request 07: "12 admits the new kinds".
 unfoldable pub isKind : ℕ → Bool
 isKind n = isOne (numbered n kinds)
 

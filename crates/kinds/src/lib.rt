@@ -1,4 +1,4 @@
-// The kinds of entries (01, Entries), by the numbers of the table; 0 is none. They stand here and nowhere else in the code.
+// The kinds of entries (01, Entries; Request 07), by the numbers of the table; 0 is none. They stand here and nowhere else in the code.
 ghost use mathlib.Core.Path.{_≡_};
 ghost use Rattle.kinds.specs.Kinds.{isKind};
 
@@ -36,6 +36,14 @@ pub const END: u64 = 15;
 
 pub const CLOSED: u64 = 16;
 
+pub const EXECUTED: u64 = 17;
+
+pub const WITHHELD: u64 = 18;
+
+pub const ACKODD: u64 = 19;
+
+pub const FORCED: u64 = 20;
+
 // Whether a number is a kind's.
 pub fn is_kind(kind: u8) -> bool
     ensures { λ r. ⌜ r ≡ isKind kind ⌝ }
@@ -43,6 +51,6 @@ pub fn is_kind(kind: u8) -> bool
     if kind as u64 == NONE {
         false
     } else {
-        kind as u64 <= CLOSED
+        kind as u64 <= FORCED
     }
 }

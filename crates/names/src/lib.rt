@@ -1,4 +1,4 @@
-// The table of kinds (01, Entries): their names, and the fields that they name.
+// The table of kinds (01, Entries; Request 07): their names, and the fields that they name.
 ghost use mathlib.Core.Path.{_≡_};
 ghost use mathlib.Core.Bool.{true};
 ghost use Prim.Native.Nat.{_+_, _≤_, _<_};
@@ -27,7 +27,8 @@ pub fn has_field(kind: u8, field: usize) -> bool
     requires { ⌜ (isKind kind ≡ true) × (field < 3) ⌝ }
     ensures { λ r. ⌜ r ≡ names kind field ⌝ }
 {
-    let fields: &[u8] = b"000 001 000 000 101 110 110 111 111 110 111 111 111 111 111 000 110 ";
+    let fields: &[u8] =
+        b"000 001 000 000 101 110 110 111 111 110 111 111 111 111 111 000 110 101 101 101 101 ";
     fields[FIELD_ROOM * kind as usize + field] == b'1'
 }
 
@@ -48,7 +49,7 @@ pub fn name_length(kind: u8) -> usize
     requires { ⌜ isKind kind ≡ true ⌝ }
     ensures { λ r. ⌜ (r ≡ length (nameOf kind)) × (r ≤ 8) ⌝ }
 {
-    let lengths: &[u8] = b"04777467344778436";
+    let lengths: &[u8] = b"047774673447784368866";
     (lengths[kind as usize] - b'0') as usize
 }
 
@@ -60,6 +61,6 @@ pub fn put_name(out: &mut [u8], at: usize, kind: u8) -> usize
     let start = NAME_ROOM * kind as usize;
     let end = start + name_length(kind);
     let names: &[u8] =
-        b"        lock    lockodd badhead command pair    absent  refused odd     mute    read    written readbad writebadecho    end     closed  ";
+        b"        lock    lockodd badhead command pair    absent  refused odd     mute    read    written readbad writebadecho    end     closed  executedwithheldackodd  forced  ";
     print::put_bytes(out, at, &names[start..end])
 }

@@ -12,9 +12,10 @@ use Rattle.protocol.specs.Rest.{Timed, frame, timer, judge}
 use Rattle.protocol.specs.Memory.{Memory}
 use Rattle.protocol.specs.Slave.{Phase, deaf, turn, speak, step}
 use Rattle.protocol.specs.Chain.{pass, column}
+use Rattle.protocol.specs.Replay.{byPlace}
 use Rattle.laws.proofs.Every.{tested}
 use Rattle.laws.proofs.Places.{outside}
-use Rattle.protocol.proofs.Dress.{dress, passTo, pass-dress, column-dress}
+use Rattle.protocol.proofs.Dress.{dress, passTo, pass-dress, column-changed, column-dress}
 
 -- The slaves in a frame, z zeros after the last 1.
 abbrev pub framed : ℕ → (ℕ → Phase) → ℕ → Timed Phase
@@ -45,6 +46,13 @@ module _ (z z′ : ℕ) (m : Bool) (t : timer z m ≡ some z′) where
       → (ks : List Memory) → column (dress (framed z f) 0 ks) m ≡ passTo (dress (framed z′ g) 0 ks) (β (length ks))
   unfolding step judge
   column-turns f g β e h ks = column-dress (framed z f) (framed z′ g) β m e (λ k i. rw (t, h k i)) ks
+
+  -- .. and `change` what the column makes of the memory there.
+  pub column-changes : (f g : ℕ → Phase) (β : ℕ → Bool) (change : ℕ → Memory → Memory) → β 0 ≡ false
+      → ((k : Memory) (i : ℕ) → speak k (f i) m (β i) ≡ turn (g i) (β (suc i)) (change i k))
+      → (ks : List Memory) → column (dress (framed z f) 0 ks) m ≡ passTo (dress (framed z′ g) 0 (byPlace change 0 ks)) (β (length ks))
+  unfolding step judge
+  column-changes f g β change e h ks = column-changed (framed z f) (framed z′ g) β change m e (λ k i. rw (t, h k i)) ks
 
   pass-deaf : (ks : List Memory) (i : ℕ) (b : Bool)
       → pass (dress (framed z (λ j. deaf)) i ks) m b ≡ passTo (dress (framed z′ (λ j. deaf)) i ks) b

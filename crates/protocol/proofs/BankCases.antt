@@ -11,7 +11,7 @@ use Rattle.protocol.specs.Bits.{bit, bits, push}
 use Rattle.protocol.specs.Rest.{judge, timer}
 use Rattle.protocol.specs.Division.{divideBit, divide, remainder, check, word, fits, byteOf}
 use Rattle.protocol.specs.Header.{header}
-use Rattle.protocol.specs.Memory.{Memory, chosen, placeOf, allows, holds, stored, delayBy, delay}
+use Rattle.protocol.specs.Memory.{Memory, chosen, placeOf, allows, holds, stored, delayBy, delay, uncounted}
 use Rattle.protocol.specs.Building.{Request, read, write, byteColumns, frameOf, rowFor}
 use Rattle.protocol.specs.Entries.{Kind, Event, event}
 use Rattle.protocol.specs.Banks.{Banked, learnt, bankOf, banked}
@@ -44,6 +44,7 @@ slaveOf banks number right =
       registers = set (filled banks 0x10 ++ replicate bankSize 0x40) (bankSize * banks) number;
       rights = replicate (bankSize * suc banks) right;
       wait = 0;
+      counts = uncounted;
     }
 
 -- The same, with a right of its own in bank 1.
@@ -54,6 +55,7 @@ shut k right =
       registers = k .registers;
       rights = replicate bankSize 3 ++ replicate bankSize right ++ replicate bankSize 3;
       wait = k .wait;
+      counts = k .counts;
     }
 
 record Sample : Type 0 where

@@ -12,7 +12,7 @@ use mathlib.Core.Bool.{Bool, true, false, not}
 use mathlib.Core.List.{List, [], _∷_, _++_, map}
 use Prim.Native.Nat.{ℕ, zero, suc, _+_, _*_}
 use Prim.Native.String.{String}
-use lib.ListN.{replicate, drop, set}
+use lib.ListN.{replicate, take, drop, set}
 use Rattle.protocol.specs.Bits.{bit, bits, push}
 use Rattle.protocol.specs.Rest.{judge, timer}
 use Rattle.protocol.specs.Division.{divideBit, divide, remainder, check, word, fits, byteOf}
@@ -91,7 +91,7 @@ samples =
     ∷ sample (one 3) reading (17 ∷ []) (entry Kind.lockodd 23 0 0 0 ∷ ended)
     -- the last check bit of the header; the header alone with CTS = 0
     ∷ sample (one 3) (flips (29 ∷ []) reading) [] (locked ∷ entry Kind.badhead 29 0 0 0 ∷ ended)
-    ∷ sample (one 3) (rowFor (command 0 2)) [] (locked ∷ entry Kind.command 29 2 0 0 ∷ [])
+    ∷ sample (one 3) (take 30 (rowFor (command 0 2 true))) [] (locked ∷ entry Kind.command 29 2 0 0 ∷ [])
     -- IDS: its first bit is ID 0's and stands highest
     ∷ sample (one 3) (drawn "00000000000000 1 0 100 00000 01 0001") [] (locked ∷ entry Kind.command 29 1 0 128 ∷ [])
     -- S, CTS = 1 and fourteen zeros: the fourteenth is the header's last column
@@ -154,7 +154,7 @@ twice k =
     let row : List Bool = rowFor (read 0 0x44 1 0) ++ reading in Reader.listFrom k (Reader.columns row (Chain.answersFrom (one 3) row))
 
 -- A kind, its column, the column of S, id, address, bank and value.
-pub placed : Kind → (column start id address bank value : ℕ) → Banked
+unfoldable pub placed : Kind → (column start id address bank value : ℕ) → Banked
 placed kind column start id address bank value =
     record { entry = record { place = record { column = column; start = start }; event = event kind id address value }; bank = bank }
 
@@ -201,6 +201,10 @@ kindLines =
     ∷ kindLine Kind.echo 14 5 63 3 90 "echo" "5\t63\t3\t90\n" "5\t64\t-\t90\n"
     ∷ kindLine Kind.end 15 0 0 0 0 "end" "-\t-\t-\t-\n" "-\t-\t-\t-\n"
     ∷ kindLine Kind.closed 16 5 63 3 0 "closed" "5\t63\t3\t-\n" "5\t64\t-\t-\n"
+    ∷ kindLine Kind.executed 17 5 0 0 90 "executed" "5\t-\t-\t90\n" "5\t-\t-\t90\n"
+    ∷ kindLine Kind.withheld 18 5 0 0 90 "withheld" "5\t-\t-\t90\n" "5\t-\t-\t90\n"
+    ∷ kindLine Kind.ackodd 19 5 0 0 90 "ackodd" "5\t-\t-\t90\n" "5\t-\t-\t90\n"
+    ∷ kindLine Kind.forced 20 5 0 0 90 "forced" "5\t-\t-\t90\n" "5\t-\t-\t90\n"
     ∷ []
 
 pub kinds-hold : map (λ s. bytesOf current (placed (s .kind) 300 270 5 63 (bankOf (replicate 8 3) (event (s .kind) 5 63 90)) 90)) kindLines
@@ -217,12 +221,12 @@ pub fixed-print : map (λ s. entryLines (entriesIn current (set (s .laid) 6 64))
 unfolding kindLines kindLine numbered pieces cut numberAt entriesIn entriesOf digitsIn decimal field cells entryLine entryLines
 fixed-print = refl
 
--- Refusal 12: lengths 0 to 18, of kind 1 throughout; kinds 0, 1, 16 and 17.
+-- Refusal 12: lengths 0 to 18, of kind 1 throughout; kinds 0, 1, 20 and 21.
 lengths-hold : tabulate (λ n. isList current (replicate n 1)) 0 19
     ≡ true ∷ replicate 8 false ++ true ∷ replicate 8 false ++ true ∷ []
 unfolding isList isWhole allEntries pieces cut numberAt numbered
 lengths-hold = refl
 
-numbers-hold : map (λ k. isList current (k ∷ replicate 8 0)) (0 ∷ 1 ∷ 16 ∷ 17 ∷ []) ≡ false ∷ true ∷ true ∷ false ∷ []
+numbers-hold : map (λ k. isList current (k ∷ replicate 8 0)) (0 ∷ 1 ∷ 20 ∷ 21 ∷ []) ≡ false ∷ true ∷ true ∷ false ∷ []
 unfolding isList isWhole allEntries pieces cut numberAt numbered
 numbers-hold = refl

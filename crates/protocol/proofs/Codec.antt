@@ -11,7 +11,7 @@ use borrow.Author.Tests.{ltb-true, leb-true}
 use lib.Dec.{ltb, leb, eqb}
 use lib.ListN.{length, take, drop, getD, replicate, length-append, length-drop, List·getD-map, getD-replicate}
 use lib.Seq.{drop-drop, drop-append-seam}
-use Rattle.protocol.specs.Entries.{Kind, lock, lockodd, badhead, command, pair, absent, refused, odd, mute, read, written, readbad, writebad, echo, end, closed, number, kinds, numbered}
+use Rattle.protocol.specs.Entries.{Kind, lock, lockodd, badhead, command, pair, absent, refused, odd, mute, read, written, readbad, writebad, echo, end, closed, executed, withheld, ackodd, forced, number, kinds, numbered}
 use Rattle.protocol.specs.Banks.{Banked}
 use Rattle.protocol.specs.Pieces.{inBytes, numberAt, isWhole, joined}
 use Rattle.protocol.specs.Layout.{Field, kind, column, start, id, address, bank, value, fields, order, Layout, narrow, width, widths, valueOf, entryBy, entryBytes, offset, fieldBytes, bytesOf, listBytes, fieldAt, entryAt, andMore, entriesOf, entriesIn, isEntry, allEntries, isList}
@@ -36,6 +36,10 @@ numbered-own writebad = refl
 numbered-own echo = refl
 numbered-own end = refl
 numbered-own closed = refl
+numbered-own executed = refl
+numbered-own withheld = refl
+numbered-own ackodd = refl
+numbered-own forced = refl
 
 -- A field's place in the layout is its own, and so a test that every field passes holds of each.
 own : (f : Field) → getD fields (order f) kind ≡ f

@@ -2,12 +2,12 @@
 -- chains of any length and rows of any length. Assumes nothing.
 use mathlib.Core.Path.{_≡_, refl, sym, ap, _∙_}
 use mathlib.Core.Bool.{Bool, true, false, false≢true}
-use mathlib.Core.List.{List, [], _∷_, _++_}
+use mathlib.Core.List.{List, [], _∷_, _++_, map}
 use mathlib.Core.Option.{some}
 use Prim.Native.Nat.{ℕ, suc, _+_, _^_, _<_}
 use native.Mathlib.Omega.{arith}
 use lib.ListN.{length, take, drop, replicate, getElem?}
-use Rattle.protocol.specs.Limits.{restZeros}
+use Rattle.protocol.specs.Limits.{restZeros, headerColumns}
 use Rattle.protocol.specs.Rest.{Timed, rest, powerOn}
 use Rattle.protocol.specs.Division.{dataBits}
 use Rattle.protocol.specs.Memory.{Memory}
@@ -20,8 +20,8 @@ use Rattle.protocol.specs.Banks.{unknown, banked, bare}
 use Rattle.protocol.specs.Reader.{Phase, Column, columns, entriesFrom, listFrom, begun}
 use Rattle.protocol.specs.Reader
 use Rattle.protocol.specs.Account.{entriesAlong, account}
-use Rattle.protocol.specs.Replay.{replay, Shows, Rightful, BanksStand}
-use Rattle.protocol.specs.Understood.{listed, Allowed, lockShown, commandShown, bytesShown, standing, closing}
+use Rattle.protocol.specs.Replay.{replay, executions, Shows, Rightful, BanksStand}
+use Rattle.protocol.specs.Understood.{listed, Allowed, lockShown, commandShown, executionShown, bytesShown, standing, closing}
 use Rattle.protocol.specs.Late.{Zeros, FirstFourteen, NoFourteen, fromColumn, Agrees, Started, OpenedAt}
 use Rattle.protocol.proofs.Rest.{fourteen}
 use Rattle.laws.proofs.Every.{Every}
@@ -32,9 +32,10 @@ use Rattle.protocol.proofs.Start as start
 use Rattle.protocol.proofs.Start.{starts}
 use Rattle.protocol.proofs.Opened.{opened-at}
 use Rattle.protocol.proofs.Rows.{soon-after, all-soon}
+use Rattle.protocol.proofs.Counts.{Uncounted, replayed-table}
 use Rattle.protocol.proofs.Whole.{whole}
 use Rattle.protocol.proofs.Rightful.{rightful, Paired, banks-stand}
-use Rattle.protocol.proofs.Understood.{read-shown, write-shown, command-shown}
+use Rattle.protocol.proofs.Understood.{read-shown, write-shown, command-shown, header-shown-alone}
 use Rattle.protocol.proofs.Twins.{Alike, twins, same-answers}
 use Rattle.protocol.proofs.Honest.{Sound, fair-along}
 use Rattle.protocol.proofs.Waits as waits
@@ -57,6 +58,11 @@ entries-are-told ks row bs = bare-banked unknown _ ∙ whole ks row bs .list
 pub replay-is-final : (ks : List Memory) (row : List Bool) → Bytes ks
     → replay ks (bare (listFrom 0 (columns row (answersFrom ks row)))) ≡ memoriesAfter ks row
 replay-is-final ks row bs = rw (entries-are-told ks row bs) (whole ks row bs .replayed)
+
+-- Request 07: "the listed executions, counted, are the chain's counts", slave by slave and code by code, from 0.
+pub executions-are-counts : (ks : List Memory) (row : List Bool) → Bytes ks → Every Uncounted ks
+    → map (λ k. k .counts) (memoriesAfter ks row) ≡ executions (length ks) 0 (bare (listFrom 0 (columns row (answersFrom ks row))))
+executions-are-counts ks row bs hs = rw (← replay-is-final ks row bs) (replayed-table ks _ hs)
 
 -- Each read in the list shows the byte that stood there then: in the replay of the entries before it.
 pub reads-show : (ks : List Memory) (row : List Bool) → Bytes ks → Shows ks (bare (listFrom 0 (columns row (answersFrom ks row))))
@@ -93,11 +99,19 @@ pub write-understood : (ks : List Memory) (k : Memory) (id address v : ℕ) (vs 
 unfolding account
 write-understood ks k id address v vs bs a h = list-is-account ks _ bs ∙ ap (banked unknown) (write-shown ks bs k id address v vs a h)
 
--- .. and of a built command the list is `lock` and `command`, whatever the chain.
-pub command-understood : (ks : List Memory) (ids cmd : ℕ) → Bytes ks → ids < 2 ^ 8 → cmd < 2 ^ 2
-    → listed ks (rowFor (command ids cmd)) ≡ banked unknown (lockShown ks ∷ commandShown ids cmd ∷ [])
+-- .. and of a built command the list is `lock`, `command`, and `executed` or `withheld` as was asked, whatever the chain.
+pub command-understood : (ks : List Memory) (ids cmd : ℕ) (execute : Bool) → Bytes ks → ids < 2 ^ 8 → cmd < 2 ^ 2
+    → listed ks (rowFor (command ids cmd execute))
+    ≡ banked unknown (lockShown ks ∷ commandShown ids cmd ∷ executionShown ids cmd execute ∷ [])
 unfolding account
-command-understood ks ids cmd bs h k = list-is-account ks _ bs ∙ ap (banked unknown) (command-shown ks bs ids cmd h k)
+command-understood ks ids cmd execute bs h k = list-is-account ks _ bs ∙ ap (banked unknown) (command-shown ks bs ids cmd execute h k)
+
+-- The header alone, which is the first thirty columns of such a row, is listed without a word on its execution.
+pub header-understood : (ks : List Memory) (ids cmd : ℕ) (execute : Bool) → Bytes ks → ids < 2 ^ 8 → cmd < 2 ^ 2
+    → listed ks (take (restZeros + 1 + headerColumns) (rowFor (command ids cmd execute)))
+    ≡ banked unknown (lockShown ks ∷ commandShown ids cmd ∷ [])
+unfolding account
+header-understood ks ids cmd execute bs h k = list-is-account ks _ bs ∙ ap (banked unknown) (header-shown-alone ks bs ids cmd execute h k)
 
 -- A reader let in at column k lists of any columns what the whole list has after the first fourteen master zeros that lie
 -- wholly at or after k, in all but the bank, and there too after a `written` of that ID's bank register in its own list ..
@@ -143,7 +157,7 @@ reader-rests s cs zeros = rests restZeros s cs (fourteen begun s) zeros
 pub slaves-rest : (ss : List Slave) → Every (λ s. s .state ≡ rest) (Chain.after ss (replicate restZeros false))
 slaves-rest ss = soon-after restZeros ss (all-soon ss)
 
--- The chain's account never holds lockodd, odd, readbad or echo.
+-- The chain's account never holds lockodd, odd, readbad, echo, ackodd or forced.
 pub no-breaches : (ks : List Memory) (row : List Bool) → Every (λ e. Sound (e .entry .event)) (account ks row)
 unfolding account entriesAlong
 no-breaches ks row = every-banked (λ e. Sound (e .event)) unknown _ (fair-along (switchedOn ks) powerOn (opened 0) row)

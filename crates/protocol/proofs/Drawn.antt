@@ -17,7 +17,8 @@ use Rattle.protocol.specs.Bits.{bit, bits, push}
 use Rattle.protocol.specs.Rest.{judge, timer}
 use Rattle.protocol.specs.Division.{divideBit, divide, remainder, check, word, fits, byteOf}
 use Rattle.protocol.specs.Header.{header}
-use Rattle.protocol.specs.Memory.{Memory, chosen, placeOf, allows, holds, stored, delayBy, delay}
+use Rattle.protocol.specs.Commands.{selects, executeColumn}
+use Rattle.protocol.specs.Memory.{Memory, chosen, placeOf, allows, holds, stored, delayBy, delay, uncounted, oneMore, counted}
 use Rattle.protocol.specs.Building.{Request, read, write, command, byteColumns, frameOf, rowFor}
 use Rattle.protocol.specs.Entries.{bytes}
 use Rattle.protocol.specs.Card.{blank}
@@ -27,11 +28,12 @@ use Rattle.protocol.specs.Chain
 -- A slave of one bank of which one register holds a value, the rest 0, with the same right everywhere ..
 unfoldable pub holding : (address value right : ℕ) → Memory
 holding address value right =
-    record { banks = 1; registers = set (replicate addressCount 0) address value; rights = replicate addressCount right; wait = 0 }
+    record { banks = 1; registers = set (replicate addressCount 0) address value; rights = replicate addressCount right; wait = 0; counts = uncounted }
 
 -- .. and with another right at one address.
 except : (address right : ℕ) → Memory → Memory
-except address right k = record { banks = k .banks; registers = k .registers; rights = set (k .rights) address right; wait = k .wait }
+except address right k =
+    record { banks = k .banks; registers = k .registers; rights = set (k .rights) address right; wait = k .wait; counts = k .counts }
 
 -- The bench card's slave, with a right: register 44 holds 5A ..
 unfoldable pub one : (right : ℕ) → List Memory
@@ -40,7 +42,8 @@ one right = holding 0x44 0x5A right ∷ []
 -- .. and with all rights and a waiting number.
 unfoldable pub slow : (wait : ℕ) → List Memory
 slow wait =
-    let k : Memory = holding 0x44 0x5A 3 in record { banks = k .banks; registers = k .registers; rights = k .rights; wait = wait } ∷ []
+    let k : Memory = holding 0x44 0x5A 3 in
+    record { banks = k .banks; registers = k .registers; rights = k .rights; wait = wait; counts = k .counts } ∷ []
 
 -- Eight slaves, of which ID 7 may be read and holds 01 at address 7F, and so many more, which hold FF there.
 eightAnd : (more : ℕ) → List Memory
@@ -153,7 +156,7 @@ drawings =
     ∷ []
 
 pub answers-hold : map answered drawings ≡ map (λ d. drawn (d .cds)) drawings
-unfolding drawings draw answered columnsOf holding one slow eightAnd except word check remainder divide divideBit bit push fits byteOf header chosen placeOf allows holds stored delayBy delay judge timer Slave.lock Slave.called Slave.more Slave.speak Slave.step Chain.pass Chain.answers Chain.switchedOn Chain.answersFrom
+unfolding drawings draw answered columnsOf holding one slow eightAnd except word check remainder divide divideBit bit push fits byteOf header chosen placeOf allows holds stored delayBy delay judge timer selects executeColumn counted oneMore Slave.lock Slave.called Slave.more Slave.speak Slave.step Chain.pass Chain.answers Chain.switchedOn Chain.answersFrom
 answers-hold = refl
 
 pub record Build : Type 0 where
@@ -172,9 +175,13 @@ builds =
     -- S repeated at every byte that waits
     ∷ build (read 0 0x7C 2 2) "00000000000000 1 1 000 11111 00 1001 10 111 00000000 0000 0 111 00000000 0000 0"
     ∷ build (write 1 0x41 (0x80 ∷ 0x01 ∷ []) 3) "00000000000000 1 1 001 10000 01 1100 01 1 10000000 0001 0 1111 00000001 1100 0"
-    ∷ build (command 0 2) "00000000000000 1 0 000 00000 10 1001"
+    -- a broadcast and an addressed command, executed and not
+    ∷ build (command 0 2 true) "00000000000000 1 0 000 00000 10 1001 1 1"
+    ∷ build (command 0 2 false) "00000000000000 1 0 000 00000 10 1001 1 0"
+    ∷ build (command 0x80 1 true) "00000000000000 1 0 100 00000 01 0001 1 0000000 1"
+    ∷ build (command 0x80 1 false) "00000000000000 1 0 100 00000 01 0001 1 0000000 0"
     ∷ []
 
 pub builds-hold : map (λ b. rowFor (b .request)) builds ≡ map (λ b. drawn (b .row)) builds
-unfolding builds build columnsOf rowFor frameOf byteColumns delayBy bits bit word check remainder divide divideBit
+unfolding builds build columnsOf rowFor frameOf byteColumns delayBy executeColumn bits bit word check remainder divide divideBit
 builds-hold = refl

@@ -1,4 +1,4 @@
--- The chain's own account holds no breach: of 2, 8, 12 and 14 none occurs in it, and `mute` only where a slave waits (proofs/Waits). Assumes
+-- The chain's own account holds no breach: of 2, 8, 12, 14, 19 and 20 none occurs in it, and `mute` only where a slave waits (proofs/Waits). Assumes
 -- nothing.
 use mathlib.Core.Path.{_≡_, refl}
 use mathlib.Core.Bool.{Bool, true, false, _&&_, _||_, Bool·beq}
@@ -15,13 +15,13 @@ use Rattle.protocol.specs.Memory.{Memory, allows}
 use Rattle.protocol.specs.Entries.{Kind, is, Event, event, Place, onward}
 use Rattle.protocol.specs.Slave.{Slave}
 use Rattle.protocol.specs.Chain.{column, memories}
-use Rattle.protocol.specs.Account.{Phase, deaf, locks, head, askR, askW, byteS, carries, askP, Told, slaveAt, delayAt, moreAt, headed, asked, tell, begun, step, along}
+use Rattle.protocol.specs.Account.{Phase, deaf, locks, head, askR, askW, byteS, carries, askP, acknowledge, askEX, Told, slaveAt, delayAt, moreAt, headed, asked, tell, begun, step, along}
 use Rattle.laws.proofs.Every.{Every, IfAny, either}
 use Rattle.protocol.proofs.Machine.{says-so, every-note}
 
 -- The kinds that only a damaged row shows.
 abbrev pub breaches : List Kind
-breaches = Kind.lockodd ∷ Kind.odd ∷ Kind.readbad ∷ Kind.echo ∷ []
+breaches = Kind.lockodd ∷ Kind.odd ∷ Kind.readbad ∷ Kind.echo ∷ Kind.ackodd ∷ Kind.forced ∷ []
 
 -- The event is of one of these kinds.
 abbrev pub among : List Kind → Event → Bool
@@ -61,6 +61,10 @@ fair-tell ks (carries false id address nth zero so-far) m = refl
 fair-tell ks (carries true id address nth zero so-far) m =
     either (λ k. Sound (event k id address (byteOf (push so-far m)))) (fits dataBits (push so-far m)) refl refl
 fair-tell ks (askP write good id address nth) m = either Fair (good && moreAt (slaveAt ks id) write address nth) tt refl
+fair-tell ks (acknowledge zero ids cmd) false = tt
+fair-tell ks (acknowledge zero ids cmd) true = tt
+fair-tell ks (acknowledge (suc column) ids cmd) m = tt
+fair-tell ks (askEX ids cmd) m = either (λ k. Sound (event k cmd 0 ids)) m refl refl
 
 pub fair-along : (ss : List Slave) (s : Timed Phase) (p : Place) (row : List Bool) → Every (λ e. Sound (e .event)) (along ss s p row)
 unfolding along step

@@ -3,6 +3,7 @@ pub mod Card
 pub mod Drawn
 pub mod Cases
 pub mod BankCases
+pub mod CommandCases
 pub mod Printed
 pub mod Division
 pub mod Words
@@ -23,7 +24,9 @@ pub mod Opened
 pub mod Rows
 pub mod Memories
 pub mod Addressed
+pub mod Commands
 pub mod Sim
+pub mod Counts
 pub mod Whole
 pub mod Zeros
 pub mod Walk

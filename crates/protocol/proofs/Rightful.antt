@@ -16,11 +16,12 @@ use Rattle.protocol.specs.Rest.{Timed, powerOn}
 use Rattle.protocol.specs.Machine.{listing}
 use Rattle.protocol.specs.Division.{dataBits, fits}
 use Rattle.protocol.specs.Header.{Header, wrong, access, command, header}
-use Rattle.protocol.specs.Memory.{Memory, chosen, placeOf, at, allows, stored}
+use Rattle.protocol.specs.Commands.{concernsAt, executeColumn}
+use Rattle.protocol.specs.Memory.{Memory, chosen, placeOf, at, allows, stored, counted}
 use Rattle.protocol.specs.Entries.{Kind, is, Event, event, Place, opened, onward, Entry, note}
 use Rattle.protocol.specs.Banks.{noBank, learnt, toldAfter, bankOf, banked}
-use Rattle.protocol.specs.Account.{Phase, deaf, locks, head, askR, askW, byteS, carries, askP, Told, slaveAt, delayAt, moreAt, headed, asked, tell, begun, Step, step, entriesAlong}
-use Rattle.protocol.specs.Replay.{storedAt, put, mayAt, whenWritten, Rightful, chosenAt, BanksStand}
+use Rattle.protocol.specs.Account.{Phase, deaf, locks, head, askR, askW, byteS, carries, askP, acknowledge, askEX, Told, slaveAt, delayAt, moreAt, headed, asked, tell, begun, Step, step, entriesAlong}
+use Rattle.protocol.specs.Replay.{storedAt, byPlace, countedAt, put, mayAt, whenWritten, Rightful, chosenAt, BanksStand}
 use Rattle.laws.proofs.Every.{Every, IfAny, either, tested, looked-up, or-left}
 use Rattle.protocol.proofs.Words.{LowId, header-low}
 use Rattle.protocol.proofs.Memories.{Bytes, stored-size, chosen-stays, goes-on}
@@ -39,6 +40,8 @@ Ready ks (askW id address r) = id < idCount
 Ready ks (byteS write id address nth unconfirmed) = (id < idCount) × mayAt (slaveAt ks id) write address
 Ready ks (carries write id address nth left so-far) = (id < idCount) × mayAt (slaveAt ks id) write address
 Ready ks (askP write good id address nth) = id < idCount
+Ready ks (acknowledge column ids cmd) = Unit {0}
+Ready ks (askEX ids cmd) = Unit {0}
 
 -- A column leads from what a phase knows to what the next one knows, and writes rightfully.
 abbrev Right : List Memory → Told → Type 0
@@ -86,6 +89,11 @@ module _ (ks : List Memory) where
   right-tell (askP write good id address nth) m h =
       tested (good && moreAt (slaveAt ks id) write address nth)
       (λ q. rw q ((h, may-go-on id address nth write good q), tt)) (λ q. rw q (tt, tt))
+  right-tell (acknowledge zero ids cmd) false h = (tt, tt)
+  right-tell (acknowledge zero ids cmd) true h = (either (Ready ks) (ltb 1 (executeColumn ids)) tt tt, tt)
+  right-tell (acknowledge (suc column) ids cmd) m h = (either (Ready ks) (ltb (suc column + 1) (executeColumn ids)) tt tt, tt)
+  right-tell (askEX ids cmd) false h = (tt, tt)
+  right-tell (askEX ids cmd) true h = (tt, tt)
 
   -- .. behind the timer.
   abbrev RightStep : Step → Type 0
@@ -123,9 +131,16 @@ paired-stored [] id address v h = tt
 paired-stored (k ∷ ks) zero address v h = (h .0 ∙ sym (stored-size k address v), h .1)
 paired-stored (k ∷ ks) (suc id) address v h = (h .0, paired-stored ks id address v (h .1))
 
+paired-counted : (ids cmd i : ℕ) (ks : List Memory) → Every Paired ks → Every Paired (byPlace (countedAt ids cmd) i ks)
+unfolding byPlace counted
+paired-counted ids cmd i [] h = tt
+paired-counted ids cmd i (k ∷ ks) h = (either Paired (concernsAt ids i) (h .0) (h .0), paired-counted ids cmd (suc i) ks (h .1))
+
 paired-put : (ks : List Memory) (e : Event) → Every Paired ks → Every Paired (put ks e)
 unfolding put
-paired-put ks e h = either (Every Paired) (is Kind.written e) (paired-stored ks (e .id) (e .address) (e .value) h) h
+paired-put ks e h =
+    either (Every Paired) (is Kind.written e) (paired-stored ks (e .id) (e .address) (e .value) h)
+    (either (Every Paired) (is Kind.executed e) (paired-counted (e .value) (e .id) 0 ks h) h)
 
 -- A right that allows something lies among the rights.
 right-inside : (rights : List ℕ) (i : ℕ) → bit (num true) (getD rights i 0) ≡ true → i < length rights
@@ -161,6 +176,14 @@ chosen-elsewhere (k ∷ ks) zero address v (suc j) h = refl
 chosen-elsewhere (k ∷ ks) (suc id) address v zero h = refl
 chosen-elsewhere (k ∷ ks) (suc id) address v (suc j) h = chosen-elsewhere ks id address v j (λ e. h (ap suc e))
 
+-- .. and a count chooses nothing.
+chosen-counted : (ids cmd i : ℕ) (ks : List Memory) (j : ℕ)
+    → chosenAt (getElem? (byPlace (countedAt ids cmd) i ks) j) ≡ chosenAt (getElem? ks j)
+unfolding byPlace counted chosen
+chosen-counted ids cmd i [] j = refl
+chosen-counted ids cmd i (k ∷ ks) zero = either (λ (l : Memory). chosen l ≡ chosen k) (concernsAt ids i) refl refl
+chosen-counted ids cmd i (k ∷ ks) (suc j) = chosen-counted ids cmd (suc i) ks j
+
 -- What is known of the IDs that were told stands in their bank registers ..
 abbrev Stands : (told : ℕ → Bool) → (known : List ℕ) → List Memory → Type 0
 Stands told known ks = (id : ℕ) → told id ≡ true → getD known id noBank ≡ chosenAt (getElem? ks id)
@@ -185,7 +208,9 @@ stands-on told known ks e n ps r s id t =
     (λ b. rw (w, b)
     (s id (or-left (told id) (rw (w, b) at t))
     ∙ sym (chosen-elsewhere ks (e .id) (e .address) (e .value) id (λ q a. eqb-false (e .address) bankRegister b a)))))
-    (λ w. rw w (s id (or-left (told id) (rw w at t))))
+    (λ w. tested (is Kind.executed e)
+    (λ x. rw (w, x) (s id (or-left (told id) (rw w at t)) ∙ sym (chosen-counted (e .value) (e .id) 0 ks id)))
+    (λ x. rw (w, x) (s id (or-left (told id) (rw w at t)))))
   where
     other : eqb (e .id) id ≡ false → id ≡ e .id → ⊥
     other i q = eqb-false (e .id) id i (sym q)

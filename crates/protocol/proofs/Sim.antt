@@ -1,7 +1,7 @@
 -- The account, the chain and the reader, side by side in a frame: which phase of each goes with which of the others, and that one
 -- column takes three that go together to three that go together again. Assumes nothing.
 use mathlib.Core.Path.{_≡_, refl, sym, _∙_, fun-ext}
-use mathlib.Core.Bool.{Bool, true, false, cond, not, _&&_, Bool·beq}
+use mathlib.Core.Bool.{Bool, true, false, cond, not, _&&_, Bool·beq, or-true}
 use mathlib.Core.List.{List}
 use mathlib.Core.Option.{Option, none, some}
 use Prim.Native.Nat.{ℕ, zero, suc, _+_, _-_, _/_, _^_, _≤_, _<_, min}
@@ -10,19 +10,20 @@ use native.Mathlib.Omega.{arith}
 use borrow.Author.Tests.{lt-ltb, le-ltb, ltb-true, ltb-false, ne-eqb}
 use lib.Dec.{ltb}
 use lib.ListN.{length, getElem?}
-use Rattle.protocol.specs.Limits.{headerColumns, idCount, lockFirst, lockLast}
+use Rattle.protocol.specs.Limits.{headerColumns, idCount, lockFirst, lockLast, executeAddressed}
 use Rattle.protocol.specs.Bits.{bit, push}
 use Rattle.protocol.specs.Rest.{Timed, power, rest, frame, timer}
 use Rattle.protocol.specs.Machine.{taken, go, gives}
 use Rattle.protocol.specs.Division.{dataBits, topBit, word, fits, byteOf}
 use Rattle.protocol.specs.Header.{Header, wrong, access, command, header}
+use Rattle.protocol.specs.Commands.{broadcast, concernsAt, acknowledgement, executeColumn}
 use Rattle.protocol.specs.Memory.{Memory, allows, holds, stored, delay}
 use Rattle.protocol.specs.Entries.{Kind, is, Event, event}
 use Rattle.protocol.specs.Slave
 use Rattle.protocol.specs.Chain
 use Rattle.protocol.specs.Reader
 use Rattle.protocol.specs.Account
-use Rattle.protocol.specs.Replay.{put, whenRead}
+use Rattle.protocol.specs.Replay.{countedAt, put, whenRead}
 use Rattle.protocol.proofs.Words.{push-bit, word-lt, byte-word, byte-lt, LowId, header-low}
 use Rattle.protocol.proofs.Division.{accepted}
 use Rattle.laws.proofs.Every.{IfAny, tested, looked-up, beq-same, beq-not}
@@ -30,7 +31,8 @@ use Rattle.laws.proofs.Places.{inside, outside, set-same, at-set, every-at}
 use Rattle.protocol.proofs.Memories.{AllBytes, Bytes, byte-held, stored-set, bytes-stored, goes-on}
 use Rattle.protocol.proofs.Dress.{dress, passTo}
 use Rattle.protocol.proofs.Locks.{number, arrives, lock-column}
-use Rattle.protocol.proofs.Addressed.{framed, only, only-deaf, column-turns, column-nobody, column-one}
+use Rattle.protocol.proofs.Addressed.{framed, only, only-deaf, column-turns, column-changes, column-nobody, column-one}
+use Rattle.protocol.proofs.Commands.{execute-early, acknowledge-column, acknowledged-locked, all-concerned, bytes-counted}
 
 -- What the reader saw of n slaves in the first j lock columns.
 unfoldable pub ladder : (n j : ℕ) → Reader.Locks
@@ -75,6 +77,12 @@ pub data Sim (ks : List Memory) : Account.Phase → (ℕ → Slave.Phase) → Re
   -- A byte has passed and P is next.
   at-P : (write good : Bool) (id address nth : ℕ) (k : Memory) → getElem? ks id ≡ some k
       → Sim ks (Account.askP write good id address nth) (only id (Slave.askP write good address nth)) (Reader.askP write id address nth)
+  -- A column of a command's acknowledgement is next, its S first: every slave listens, and the answers fitted so far.
+  at-acknowledge : (column ids cmd so-far : ℕ) → column < executeAddressed
+      → Sim ks (Account.acknowledge column ids cmd) (λ i. Slave.acknowledge column ids cmd (number i idCount))
+      (Reader.acknowledge column ids cmd (lockOf ks) so-far true)
+  -- EX is next, and every slave knows whether it is concerned.
+  at-EX : (ids cmd : ℕ) → Sim ks (Account.askEX ids cmd) (λ i. Slave.askEX cmd (concernsAt ids i)) (Reader.askEX ids cmd true)
 
 -- The same around the frames.
 pub data Together (ks : List Memory) : Timed Account.Phase → (ℕ → Timed Slave.Phase) → Timed Reader.Phase → Type 0 where
@@ -176,7 +184,8 @@ module _ (ks : List Memory) (bs : Bytes ks) (z z′ : ℕ) where
       → Next ks (framed z f) m (taken z′ (Account.headed h)) (λ x. taken z′ (Reader.headed h (lockOf ks)))
   unfolding Account.headed Reader.headed Slave.called put
   headed wrong low passes = to (λ i. Slave.deaf) false passes all-deaf refl bs tt
-  headed (command ids cmd) low passes = to (λ i. Slave.deaf) false passes all-deaf refl bs tt
+  headed (command ids cmd) low passes =
+      to (λ i. Slave.acknowledge 0 ids cmd (number i idCount)) false passes (at-acknowledge 0 ids cmd 0 (omega arith)) refl bs tt
   headed (access id address) low passes =
       to (only id (Slave.askR address)) false (rw (called-only id address low) at passes) (at-R id address low) refl bs tt
 
@@ -205,6 +214,26 @@ module _ (ks : List Memory) (bs : Bytes ks) (z z′ : ℕ) where
       to (only id (Slave.takes address nth topBit 0)) true
       (speaks true t id (Slave.byteS true address nth unconfirmed) (Slave.takes address nth topBit 0) true k e (λ b. rw q))
       (in-write id address nth topBit 0 k e) refl bs tt
+
+  -- A column of the acknowledgement, in which no slave goes deaf: the reader sees what the locks and IDS let it expect.
+  acknowledges : (column ids cmd so-far : ℕ) (m : Bool) → column < executeAddressed → timer z m ≡ some z′
+      → ((k : Memory) (o : Option ℕ) (b : Bool) → Slave.speak k (Slave.acknowledge column ids cmd o) m b
+      ≡ Slave.turn (Slave.acknowledgeNext column ids cmd o) (Slave.acknowledged column ids o b) k)
+      → Next ks (framed z (λ i. Slave.acknowledge column ids cmd (number i idCount))) m
+      (taken z′ (go (Account.acknowledgeNext column ids cmd)))
+      (λ x. taken z′ (Reader.acknowledged column ids cmd (lockOf ks) so-far true x))
+  acknowledges column ids cmd so-far m h t turns =
+      let x : Bool = acknowledgement column ids (length ks) in
+      let passes = acknowledge-column ks z z′ column ids cmd m t h turns in
+      let fitting : Reader.fitsIDA column ids (lockOf ks) x ≡ true
+      = rw (acknowledged-locked column ids (length ks) h, beq-same x) (or-true (broadcast ids)) in
+      tested (ltb (column + 1) (executeColumn ids))
+      (λ q. rw q
+      (to (λ i. Slave.acknowledge (column + 1) ids cmd (number i idCount)) x (rw q at passes)
+      (rw fitting (at-acknowledge (column + 1) ids cmd (push so-far x) (omega (arith, ltb-true (column + 1) (executeColumn ids) q, execute-early ids)))) refl bs tt))
+      (λ q. rw q
+      (to (λ i. Slave.askEX cmd (concernsAt ids i)) x (rw (q, all-concerned ids cmd) at passes)
+      (rw fitting (at-EX ids cmd)) (rw fitting) bs tt))
 
   -- One column of a frame, in each of the cases above.
   pub advance : {p : Account.Phase} {f : ℕ → Slave.Phase} {r : Reader.Phase} → Sim ks p f r → (m : Bool) → timer z m ≡ some z′
@@ -310,3 +339,18 @@ module _ (ks : List Memory) (bs : Bytes ks) (z z′ : ℕ) where
       rw (e, q)
       (to (only id p′) false (speaks m t id p p′ false k e (λ b. rw q)) (rw room (at-S write id (address + 1) (nth + 1) 0 k e)) (rw room) bs tt))
       (λ q. rw (e, q) (to (λ i. Slave.deaf) true (goes-deaf m t id p true k e (λ b. rw q)) all-deaf refl bs tt))
+  advance (at-acknowledge zero ids cmd so-far h) false t =
+      to (λ i. Slave.deaf) false
+      (column-turns z z′ false t (λ i. Slave.acknowledge zero ids cmd (number i idCount)) (λ i. Slave.deaf) (λ i. false) refl (λ k i. refl) ks)
+      all-deaf refl bs tt
+  advance (at-acknowledge zero ids cmd so-far h) true t = acknowledges zero ids cmd so-far true h t (λ k o b. refl)
+  advance (at-acknowledge (suc column) ids cmd so-far h) m t = acknowledges (suc column) ids cmd so-far m h t (λ k o b. refl)
+  advance (at-EX ids cmd) false t =
+      to (λ i. Slave.deaf) false
+      (column-turns z z′ false t (λ i. Slave.askEX cmd (concernsAt ids i)) (λ i. Slave.deaf) (λ i. false) refl (λ k i. refl) ks)
+      all-deaf refl bs tt
+  advance (at-EX ids cmd) true t =
+      to (λ i. Slave.deaf) false
+      (column-changes z z′ true t (λ i. Slave.askEX cmd (concernsAt ids i)) (λ i. Slave.deaf) (λ i. false) (countedAt ids cmd) refl
+      (λ k i. refl) ks)
+      all-deaf refl (bytes-counted ids cmd 0 ks bs) tt

@@ -13,8 +13,9 @@ use Rattle.protocol.specs.Rest.{Timed, rest, frame, powerOn}
 use Rattle.protocol.specs.Machine.{taken}
 use Rattle.protocol.specs.Division.{dataBits, fits, byteOf}
 use Rattle.protocol.specs.Header.{Header, wrong, access, command, header}
-use Rattle.protocol.specs.Memory.{Memory, chosen, placeOf, place, at, changed, allows, holds, stored, delay}
-use Rattle.protocol.specs.Slave.{Phase, deaf, locks, head, askR, askW, byteS, sends, takes, askP, Turn, turn, called, more, confirmed, speak, Slave, slave, Step, stepped, step, slaveOf}
+use Rattle.protocol.specs.Commands.{executeColumn}
+use Rattle.protocol.specs.Memory.{Memory, chosen, placeOf, place, at, changed, allows, holds, stored, delay, counted}
+use Rattle.protocol.specs.Slave.{Phase, deaf, locks, head, askR, askW, byteS, sends, takes, askP, acknowledge, askEX, Turn, turn, called, more, confirmed, speak, Slave, slave, Step, stepped, step, slaveOf}
 use Rattle.protocol.specs.Chain.{Passed, pass, column, answers, switchedOn}
 use Rattle.laws.proofs.Every.{either, Matched}
 use Rattle.laws.proofs.Places.{set-like}
@@ -22,7 +23,7 @@ use Rattle.protocol.proofs.Memories.{goes-on}
 use Rattle.protocol.proofs.Machine.{At, judged}
 
 -- As many banks, the same rights, waits and number in the bank register, as many registers, and the same byte in every register that may be
--- read, wherever it lies; of the others nothing is asked.
+-- read, wherever it lies; of the others, and of the counts, nothing is asked.
 pub record Like (k k′ : Memory) : Type 0 where
   pub banks : k .banks ≡ k′ .banks
   pub rights : k .rights ≡ k′ .rights
@@ -51,6 +52,8 @@ Open k (byteS write address nth unconfirmed) = Readable k write address
 Open k (sends address nth left what) = Unit {0}
 Open k (takes address nth left so-far) = Unit {0}
 Open k (askP write good address nth) = Unit {0}
+Open k (acknowledge column ids cmd number) = Unit {0}
+Open k (askEX cmd concerned) = Unit {0}
 
 -- Both slaves come to the same phase and send the same bit.
 data SameTurn : Turn → Turn → Type 0 where
@@ -110,6 +113,13 @@ like-took : (k k′ : Memory) (address w : ℕ) → Like k k′ → (good : Bool
 like-took k k′ address w l true = like-stored k k′ address (byteOf w) l
 like-took k k′ address w l false = l
 
+-- No answer hangs on a count.
+like-counted : (k k′ : Memory) (cmd : ℕ) → Like k k′ → (b : Bool) → Like (cond b (counted k cmd) k) (cond b (counted k′ cmd) k′)
+unfolding counted chosen delay
+like-counted k k′ cmd l true =
+    record { banks = l .banks; rights = l .rights; delays = l .delays; size = l .size; bank = l .bank; readable = l .readable }
+like-counted k k′ cmd l false = l
+
 -- W and P: a slave goes on where its right allows it, and otherwise goes deaf.
 decides : (k k′ : Memory) (write : Bool) (address nth : ℕ) (x y test : Bool) → Like k k′ → (test ≡ true → allows k write address ≡ true)
     → SameTurn (cond test (turn (byteS write address nth 0) x k) (turn deaf y k)) (cond test (turn (byteS write address nth 0) x k′) (turn deaf y k′))
@@ -158,6 +168,11 @@ same-turn k k′ (takes address nth (suc left) so-far) m b l o = same _ m l tt
 same-turn k k′ (askP write good address nth) m b l o =
     rw (same-more k k′ write address nth l)
     (decides k k′ write (address + 1) (nth + 1) false true (good && more k write address nth) l (λ h. goes-on k write good address nth h .1))
+same-turn k k′ (acknowledge zero ids cmd number) false b l o = same deaf b l tt
+same-turn k k′ (acknowledge zero ids cmd number) true b l o = same _ _ l (either (Open k) (ltb 1 (executeColumn ids)) tt tt)
+same-turn k k′ (acknowledge (suc column) ids cmd number) m b l o =
+    same _ _ l (either (Open k) (ltb (suc column + 1) (executeColumn ids)) tt tt)
+same-turn k k′ (askEX cmd concerned) m b l o = same deaf b (like-counted k k′ cmd l (m && concerned)) tt
 
 -- Twins: one state, and memories that are alike; at power-on and at rest nothing more is asked.
 pub data Twin : Slave → Slave → Type 0 where

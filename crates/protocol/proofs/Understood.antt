@@ -4,32 +4,34 @@ use mathlib.Core.Path.{_≡_, refl, ap, ap₂, _∙_}
 use mathlib.Core.Bool.{Bool, true, false, not, cond}
 use mathlib.Core.List.{List, [], _∷_, _++_, append-nil, head-eq-of-cons-eq, tail-eq-of-cons-eq}
 use mathlib.Core.Option.{some}
-use Prim.Native.Nat.{ℕ, zero, suc, _+_, _*_, _/_, _^_, _≤_, _<_}
+use Prim.Native.Nat.{ℕ, zero, suc, _+_, _-_, _*_, _/_, _^_, _≤_, _<_}
 use native.Mathlib.Nat.{add-zero, add-assoc, mul-suc, div-eq-of-lt, div-one}
 use native.Mathlib.Numerals.{add-one}
 use native.Mathlib.Omega.{arith}
 use borrow.Author.Tests.{lt-ltb, le-ltb, ne-eqb}
-use lib.ListN.{length, replicate, getElem?}
+use lib.ListN.{length, take, replicate, getElem?}
 use Rattle.protocol.specs.Limits.{restZeros, headerColumns, addressCount, byteLimit}
 use Rattle.protocol.specs.Bits.{bits, push}
 use Rattle.protocol.specs.Rest.{judge, timer}
 use Rattle.protocol.specs.Division.{headerBits, dataBits, topBit, word, fits, byteOf}
 use Rattle.protocol.specs.Header.{Header, header, accessWord, commandWord}
+use Rattle.protocol.specs.Commands.{executeColumn}
 use Rattle.protocol.specs.Memory.{Memory, allows, holds, stored, delayBy, delay}
 use Rattle.protocol.specs.Slave.{more}
-use Rattle.protocol.specs.Building.{frameHead, byteColumns, frameOf, rowFor}
+use Rattle.protocol.specs.Building.{frameHead, byteColumns, commandColumns, frameOf, rowFor}
 use Rattle.protocol.specs.Building
 use Rattle.protocol.specs.Entries.{Kind, event, Entry}
-use Rattle.protocol.specs.Account.{Phase, askR, byteS, carries, askP, Told, headed, asked, tell, begun, step, entriesAlong}
+use Rattle.protocol.specs.Account.{Phase, askR, byteS, carries, askP, acknowledge, askEX, acknowledgeNext, Told, headed, asked, tell, begun, step, entriesAlong}
 use Rattle.protocol.specs.Replay.{put}
-use Rattle.protocol.specs.Understood.{frameAt, inFrame, Allowed, lockShown, commandShown, delayed, byteColumn, byteShown, bytesShown, standing, closing}
+use Rattle.protocol.specs.Understood.{frameAt, inFrame, Allowed, lockShown, commandShown, executionShown, delayed, byteColumn, byteShown, bytesShown, standing, closing}
 use Rattle.protocol.proofs.Words.{push-bit, word-lt, byte-word, header-access, header-command}
 use Rattle.protocol.proofs.Division.{accepted}
 use Rattle.laws.proofs.Every.{Every, tested, beq-not}
 use Rattle.laws.proofs.Places.{at-set}
 use Rattle.protocol.proofs.Memories.{Bytes, stored-set, allows-ahead}
 use Rattle.protocol.proofs.Sim.{kept}
-use Rattle.protocol.proofs.Zeros.{asking, twelveOf, carrying, frame-asking, calm, header-calm, access-calm}
+use Rattle.protocol.proofs.Commands.{execute-late}
+use Rattle.protocol.proofs.Zeros.{asking, twelveOf, carrying, frame-asking, calm, header-calm, command-calm, access-calm}
 use Rattle.protocol.proofs.Walk.{Walk, noted, walk, phases, account-walk, walk-phases}
 
 -- The bits of a word, collected as they come, are the word.
@@ -81,6 +83,7 @@ after write k address v =
       registers = cond write (stored k address v .registers) (k .registers);
       rights = k .rights;
       wait = k .wait;
+      counts = k .counts;
     }
 
 -- .. and what is allowed at the addresses that follow.
@@ -241,6 +244,34 @@ unfolding standing
 length-standing k address zero = refl
 length-standing k address (suc n) = ap suc (length-standing k (address + 1) n)
 
+-- The first thirty columns of a command's row are its header, whether it is executed or not.
+header-alone : (ids cmd : ℕ) (execute : Bool)
+    → take (restZeros + 1 + headerColumns) (rowFor (Building.command ids cmd execute)) ≡ replicate restZeros false ++ frameHead (commandWord ids cmd)
+unfolding rowFor frameOf bits
+header-alone ids cmd execute = refl
+
+-- A command's columns between S and EX tell nothing.
+acknowledged-shown : (ks : List Memory) (ids cmd : ℕ) (next : List Bool) (left column c : ℕ) → column + 1 + left ≡ executeColumn ids
+    → phases ks (acknowledgeNext column ids cmd) (frameAt c) (replicate left false ++ next) ≡ phases ks (askEX ids cmd) (frameAt (c + left)) next
+unfolding phases tell
+acknowledged-shown ks ids cmd next zero column c e = rw (le-ltb (column + 1) (executeColumn ids) (omega arith), add-zero)
+acknowledged-shown ks ids cmd next (suc left) column c e =
+    rw (lt-ltb (column + 1) (executeColumn ids) (omega arith), add-one column)
+    (acknowledged-shown ks ids cmd next left (suc column) (suc c) (omega arith)
+    ∙ ap (λ (d : ℕ). phases ks (askEX ids cmd) (frameAt d) next) (omega arith))
+
+-- Behind its header: S, those columns, and EX.
+execution-shown : (ks : List Memory) (ids cmd : ℕ) (execute : Bool)
+    → phases ks (acknowledge 0 ids cmd) (frameAt (restZeros + headerColumns + 1)) (commandColumns ids execute) .told
+    ≡ executionShown ids cmd execute ∷ []
+unfolding phases tell
+execution-shown ks ids cmd execute =
+    let c : ℕ = restZeros + headerColumns + 2 in
+    let on : restZeros + headerColumns + 2 + (executeColumn ids - 1) ≡ restZeros + headerColumns + 1 + executeColumn ids
+    = omega (arith, execute-late ids) in
+    rw on at (ap (λ (w : Walk Phase). w .told)
+    (acknowledged-shown ks ids cmd (execute ∷ []) (executeColumn ids - 1) 0 c (omega (arith, execute-late ids))))
+
 -- The accounts of the three requests.
 module _ (ks : List Memory) (bs : Bytes ks) where
   access-shown : (write : Bool) (k : Memory) (id address v : ℕ) (vs : List ℕ) → Allowed ks k write id address (suc (length vs))
@@ -274,10 +305,20 @@ module _ (ks : List Memory) (bs : Bytes ks) where
   unfolding Carried
   write-shown k id address v vs a h = access-shown true k id address v vs a h
 
-  pub command-shown : (ids cmd : ℕ) → ids < 2 ^ 8 → cmd < 2 ^ 2
-      → entriesAlong ks (rowFor (Building.command ids cmd)) ≡ lockShown ks ∷ commandShown ids cmd ∷ []
-  unfolding rowFor frameOf headed from-header phases
-  command-shown ids cmd h l =
+  pub command-shown : (ids cmd : ℕ) (execute : Bool) → ids < 2 ^ 8 → cmd < 2 ^ 2
+      → entriesAlong ks (rowFor (Building.command ids cmd execute))
+      ≡ lockShown ks ∷ commandShown ids cmd ∷ executionShown ids cmd execute ∷ []
+  unfolding rowFor frameOf headed from-header put
+  command-shown ids cmd execute h l =
+      rw (header-command ids cmd h l, execution-shown ks ids cmd execute)
+      at (frame-head-shown ks (commandWord ids cmd) (commandColumns ids execute) (omega arith) bs
+      (command-calm ids cmd execute (omega arith)))
+
+  pub header-shown-alone : (ids cmd : ℕ) (execute : Bool) → ids < 2 ^ 8 → cmd < 2 ^ 2
+      → entriesAlong ks (take (restZeros + 1 + headerColumns) (rowFor (Building.command ids cmd execute))) ≡ lockShown ks ∷ commandShown ids cmd ∷ []
+  unfolding headed from-header phases
+  header-shown-alone ids cmd execute h l =
       let v : ℕ = commandWord ids cmd in
-      rw (header-command ids cmd h l, append-nil)
-      at (frame-head-shown ks v [] (omega arith) bs (rw append-nil (header-calm v (omega arith))))
+      rw (header-alone ids cmd execute)
+      (rw (header-command ids cmd h l, append-nil)
+      at (frame-head-shown ks v [] (omega arith) bs (rw append-nil (header-calm v (omega arith)))))

@@ -4,7 +4,7 @@ use mathlib.Core.Path.{_≡_, refl}
 use mathlib.Core.Bool.{Bool, true, false, not, _&&_, Bool·beq}
 use mathlib.Core.List.{List, [], _∷_}
 use mathlib.Core.Option.{Option, none, some}
-use Prim.Native.Nat.{ℕ, zero, suc}
+use Prim.Native.Nat.{ℕ, zero, suc, _+_}
 use lib.Dec.{ltb, eqb}
 use lib.ListN.{getElem?}
 use Rattle.protocol.specs.Limits.{headerColumns, lockLast}
@@ -12,12 +12,13 @@ use Rattle.protocol.specs.Bits.{push}
 use Rattle.protocol.specs.Rest.{Timed, powerOn, judge}
 use Rattle.protocol.specs.Division.{dataBits, fits, byteOf}
 use Rattle.protocol.specs.Header.{Header, wrong, access, command, header}
-use Rattle.protocol.specs.Memory.{Memory, allows, stored, delayBy, delay}
+use Rattle.protocol.specs.Commands.{executeColumn}
+use Rattle.protocol.specs.Memory.{Memory, allows, stored, delayBy, delay, counted}
 use Rattle.protocol.specs.Entries.{Kind, is, Event, event, Place, opened, onward}
 use Rattle.protocol.specs.Slave
 use Rattle.protocol.specs.Slave.{Slave, Reply, turn, confirmed}
 use Rattle.protocol.specs.Chain.{pass, column, memories, switchedOn}
-use Rattle.protocol.specs.Account.{Phase, deaf, locks, head, askR, askW, byteS, carries, askP, Told, slaveAt, delayAt, moreAt, headed, asked, tell, begun, Step, step, along, entriesAlong}
+use Rattle.protocol.specs.Account.{Phase, deaf, locks, head, askR, askW, byteS, carries, askP, acknowledge, askEX, Told, slaveAt, delayAt, moreAt, headed, asked, tell, begun, Step, step, along, entriesAlong}
 use Rattle.laws.proofs.Every.{Every, IfAny, either, looked-up}
 use Rattle.laws.proofs.Places.{every-at}
 use Rattle.protocol.proofs.Machine.{At, says-so, keeps, every-note}
@@ -49,7 +50,7 @@ abbrev Stays : Slave.Turn → Type 0
 Stays t = Prompt (t .says .memory)
 
 prompt-speak : (k : Memory) (p : Slave.Phase) (m b : Bool) → Prompt k → Stays (Slave.speak k p m b)
-unfolding Slave.speak stored
+unfolding Slave.speak stored counted
 prompt-speak k Slave.deaf m b h = h
 prompt-speak k (Slave.locks column so-far number) m b h = h
 prompt-speak k (Slave.head column so-far number) m b h = h
@@ -65,6 +66,10 @@ prompt-speak k (Slave.takes address nth zero so-far) m b h = either Prompt (fits
 prompt-speak k (Slave.takes address nth (suc left) so-far) m b h = h
 prompt-speak k (Slave.askP write good address nth) m b h =
     either Stays (good && Slave.more k write address nth) h h
+prompt-speak k (Slave.acknowledge zero ids cmd number) false b h = h
+prompt-speak k (Slave.acknowledge zero ids cmd number) true b h = h
+prompt-speak k (Slave.acknowledge (suc column) ids cmd number) m b h = h
+prompt-speak k (Slave.askEX cmd concerned) m b h = either Prompt (m && concerned) h h
 
 prompt-step : (s : Slave) (m b : Bool) → Prompt (s .memory) → Prompt (Slave.step s m b .says .memory)
 unfolding Slave.step
@@ -96,6 +101,8 @@ Unasked (askW id address r) = Unit {0}
 Unasked (byteS write id address nth unconfirmed) = unconfirmed ≡ 0
 Unasked (carries write id address nth left so-far) = Unit {0}
 Unasked (askP write good id address nth) = Unit {0}
+Unasked (acknowledge column ids cmd) = Unit {0}
+Unasked (askEX ids cmd) = Unit {0}
 
 -- A column after which no S has come before, and that tells no `mute`.
 abbrev Plain : Told → Type 0
@@ -132,6 +139,10 @@ module _ (ks : List Memory) (hs : Every Prompt ks) where
       (tt, either (λ k. Loud (event k id address (byteOf (push so-far m)))) (fits dataBits (push so-far m)) refl refl)
   plain-tell (askP write good id address nth) m h =
       either Plain (good && moreAt (slaveAt ks id) write address nth) (refl, tt) (tt, refl)
+  plain-tell (acknowledge zero ids cmd) false h = (tt, tt)
+  plain-tell (acknowledge zero ids cmd) true h = (either Unasked (ltb 1 (executeColumn ids)) tt tt, tt)
+  plain-tell (acknowledge (suc column) ids cmd) m h = (either Unasked (ltb (suc column + 1) (executeColumn ids)) tt tt, tt)
+  plain-tell (askEX ids cmd) m h = (tt, either (λ k. Loud (event k cmd 0 ids)) m refl refl)
 
 loud-along : (row : List Bool) (ss : List Slave) (s : Timed Phase) (p : Place) → Every Prompt (memories ss) → At Unasked s
     → Every (λ e. Loud (e .event)) (along ss s p row)

@@ -15,7 +15,7 @@ use Rattle.protocol.specs.Header.{Header, wrong, access, command, header
 use Rattle.protocol.proofs.Division.{bit-above, bit-same, under, check-lt, accepted}
 use Rattle.laws.proofs.Every.{either}
 
-num-lt : (b : Bool) → num b < 2
+pub num-lt : (b : Bool) → num b < 2
 num-lt true = omega arith
 num-lt false = omega arith
 

@@ -3,22 +3,24 @@
 use mathlib.Core.Path.{_≡_, refl, ap}
 use mathlib.Core.Bool.{Bool, true, false, not, _&&_, _||_, and-assoc, false≢true}
 use mathlib.Core.List.{List, [], _∷_, _++_, map, append-assoc}
-use Prim.Native.Nat.{ℕ, zero, suc, _+_, _^_, _<_}
+use Prim.Native.Nat.{ℕ, zero, suc, _+_, _-_, _^_, _<_}
 use native.Mathlib.Omega.{arith}
 use borrow.Author.Tests.{lt-ltb, ltb-true}
 use lib.Dec.{ltb}
-use lib.ListN.{length, length-append, replicate}
+use lib.ListN.{length, length-append, replicate, length-replicate}
 use lib.Seq.{append-snoc}
 use Rattle.protocol.specs.Limits.{restZeros, idCount, addressCount}
 use Rattle.protocol.specs.Bits.{bit, bits}
 use Rattle.protocol.specs.Division.{headerBits, dataBits, checkWidth, topBit, divideBit, divide, remainder, check, word}
-use Rattle.protocol.specs.Header.{accessWord}
-use Rattle.protocol.specs.Building.{Request, frameHead, byteColumns, readBits, writeBits, frameOf}
+use Rattle.protocol.specs.Header.{accessWord, commandWord}
+use Rattle.protocol.specs.Commands.{executeColumn}
+use Rattle.protocol.specs.Building.{Request, frameHead, byteColumns, readBits, writeBits, commandColumns, frameOf}
 use Rattle.protocol.specs.Building
 use Rattle.laws.proofs.Table.{below}
 use Rattle.laws.proofs.Every.{tested}
 use Rattle.protocol.proofs.Division.{check-lt}
 use Rattle.protocol.proofs.Words.{bits-append, length-bits}
+use Rattle.protocol.proofs.Commands.{execute-early}
 
 -- A read of as many bytes as the list has, or a write of the list; a byte's twelve bits; the columns of its bytes; its frame.
 abbrev pub asking : (write : Bool) → (id address : ℕ) → List ℕ → (wait : ℕ) → Request
@@ -107,11 +109,19 @@ header-and-zero v h =
     (rw (calm-short 0 bs (omega (arith, length-bits headerBits v)), calm-short (trailing 0 bs) (cs ++ false ∷ []) short)))
     (λ q. rw q at (all-tried v h))
 
--- So the frame of a command holds no fourteen zeros ..
 pub header-calm : (v : ℕ) → v < 2 ^ headerBits → calm 0 (frameHead v) ≡ true
 header-calm v h =
     tested (calm 0 (frameHead v)) (λ q. q)
     (λ q. absurd (false≢true (rw (calm-append, q) at (header-and-zero v h))))
+
+-- So the frame of a command holds no fourteen zeros: at most eight columns follow its S ..
+pub command-calm : (ids cmd : ℕ) (execute : Bool) → commandWord ids cmd < 2 ^ headerBits
+    → calm 0 (frameHead (commandWord ids cmd) ++ commandColumns ids execute) ≡ true
+unfolding calm
+command-calm ids cmd execute h =
+    rw (calm-append, header-calm (commandWord ids cmd) h)
+    (calm-short 0 (replicate (executeColumn ids - 1) false ++ execute ∷ [])
+    (rw (length-append, length-replicate) (omega (arith, execute-early ids))))
 
 -- .. and neither does that of a read or a write.
 pub access-calm : (write : Bool) (id address : ℕ) (vs : List ℕ) (wait : ℕ) → id < idCount → address < addressCount

@@ -13,6 +13,7 @@ use Rattle.protocol.specs.Machine as machine
 use Rattle.protocol.specs.Machine.{go, gives, listing}
 use Rattle.protocol.specs.Division.{dataBits, topBit, fits, byteOf}
 use Rattle.protocol.specs.Header.{Header, wrong, access, command, header}
+use Rattle.protocol.specs.Commands.{executeColumn}
 use Rattle.protocol.specs.Memory.{Memory, allows, holds, delay}
 use Rattle.protocol.specs.Slave.{Slave, more}
 use Rattle.protocol.specs.Chain.{column, memories, switchedOn}
@@ -29,6 +30,8 @@ pub data Phase : Type 0 where
   byteS : (write : Bool) → (id address nth unconfirmed : ℕ) → Phase
   carries : (write : Bool) → (id address nth left so-far : ℕ) → Phase
   askP : (write good : Bool) → (id address nth : ℕ) → Phase
+  acknowledge : (column ids cmd : ℕ) → Phase
+  askEX : (ids cmd : ℕ) → Phase
 
 -- What a column makes of the account in a frame: its next phase, and perhaps an event ..
 abbrev pub Told : Type 0
@@ -45,7 +48,7 @@ slaveAt ks id = getElem? ks id
 -- badhead and command, at the header's last column, as in Reader.
 unfoldable pub headed : Header → Told
 headed wrong = gives (event Kind.badhead 0 0 0) deaf
-headed (command ids cmd) = gives (event Kind.command cmd 0 ids) deaf
+headed (command ids cmd) = gives (event Kind.command cmd 0 ids) (acknowledge 0 ids cmd)
 headed (access id address) = go (askR id address)
 
 -- absent: nobody holds the ID. refused: its right does not allow the access.
@@ -68,6 +71,10 @@ delayAt (some k) write nth = delay k write nth
 abbrev pub moreAt : Option Memory → (write : Bool) → (address nth : ℕ) → Bool
 moreAt none write address nth = false
 moreAt (some k) write address nth = more k write address nth
+
+-- 000: "7 Cycles" of acknowledgement, in a broadcast none, and then EX.
+abbrev pub acknowledgeNext : (column ids cmd : ℕ) → Phase
+acknowledgeNext column ids cmd = cond (ltb (column + 1) (executeColumn ids)) (acknowledge (column + 1) ids cmd) (askEX ids cmd)
 
 -- One column of a frame, from the master's bit and the memories.
 unfoldable pub tell : List Memory → Phase → (m : Bool) → Told
@@ -93,6 +100,10 @@ tell ks (carries true id address nth zero so-far) m =
 tell ks (askP write good id address nth) m =
     cond (good && moreAt (slaveAt ks id) write address nth) (go (byteS write id (address + 1) (nth + 1) 0))
     (gives (event Kind.closed id address 0) deaf)
+tell ks (acknowledge zero ids cmd) false = go deaf
+tell ks (acknowledge zero ids cmd) true = go (acknowledgeNext zero ids cmd)
+tell ks (acknowledge (suc column) ids cmd) m = go (acknowledgeNext (suc column) ids cmd)
+tell ks (askEX ids cmd) m = gives (event (cond m Kind.executed Kind.withheld) cmd 0 ids) deaf
 
 -- The phase after S.
 abbrev pub begun : Phase

@@ -6,7 +6,7 @@ use lib.ListN.{replicate}
 use Rattle.protocol.specs.Limits.{restZeros, lockLast, addressCount}
 use Rattle.protocol.specs.Division.{headerBits, dataBits, check}
 use Rattle.protocol.specs.Header.{accessWord, commandWord}
-use Rattle.protocol.specs.Memory.{Memory}
+use Rattle.protocol.specs.Memory.{Memory, uncounted}
 use Rattle.protocol.specs.Chain.{answersFrom}
 use Rattle.protocol.specs.Banks.{Banked}
 use Rattle.protocol.specs.Reader.{columns, listFrom}
@@ -24,7 +24,7 @@ lockRow = replicate restZeros false ++ true ∷ replicate lockLast false
 
 -- A slave of one bank with nothing in its registers and no rights.
 abbrev pub blank : Memory
-blank = record { banks = 1; registers = replicate addressCount 0; rights = replicate addressCount 0; wait = 0 }
+blank = record { banks = 1; registers = replicate addressCount 0; rights = replicate addressCount 0; wait = 0; counts = uncounted }
 
 -- The values of a list's entries.
 abbrev pub values : List Banked → List ℕ

@@ -11,7 +11,7 @@ use Rattle.protocol.specs.Rest.{Timed, framed}
 
 -- The names of the kinds, in the table's order.
 pub data Kind : Type 0 where
-  lock lockodd badhead command pair absent refused odd mute read written readbad writebad echo end closed : Kind
+  lock lockodd badhead command pair absent refused odd mute read written readbad writebad echo end closed executed withheld ackodd forced : Kind
 
 -- A name's bytes.
 abbrev pub bytes : String → List ℕ
@@ -48,6 +48,11 @@ table writebad = tells 13 "writebad" true true true
 table echo = tells 14 "echo" true true true
 table end = tells 15 "end" false false false
 table closed = tells 16 "closed" true true false
+-- Request 07: "the new kinds, numbered from 17".
+table executed = tells 17 "executed" true false true
+table withheld = tells 18 "withheld" true false true
+table ackodd = tells 19 "ackodd" true false true
+table forced = tells 20 "forced" true false true
 
 -- A kind's number.
 abbrev pub number : Kind → ℕ
@@ -57,7 +62,7 @@ number k = table k .number
 abbrev pub kinds : List Kind
 kinds =
     lock ∷ lockodd ∷ badhead ∷ command ∷ pair ∷ absent ∷ refused ∷ odd ∷ mute ∷ read ∷ written ∷ readbad ∷ writebad ∷ echo ∷ end
-    ∷ closed ∷ []
+    ∷ closed ∷ executed ∷ withheld ∷ ackodd ∷ forced ∷ []
 
 -- The kind of a number: the first of the table that has it.
 unfoldable pub numbered : ℕ → List Kind → Option Kind

@@ -153,6 +153,6 @@ unfoldable pub allEntries : Layout → List (List ℕ) → Bool
 allEntries l [] = true
 allEntries l (p ∷ ps) = isEntry (entryAt l p 0) && allEntries l ps
 
--- Refusal 12. Request 05: "12 a multiple of 9"; "or a kind outside 1 to 16".
+-- Refusal 12. Request 05: "12 a multiple of 9"; "or a kind outside" the table; Request 07: "12 admits the new kinds".
 unfoldable pub isList : Layout → (list : List ℕ) → Bool
 isList l list = isWhole (entryBytes l) list && allEntries l (pieces (entryBytes l) list)

@@ -14,6 +14,7 @@ pub mod Rest
 pub mod Machine
 pub mod Division
 pub mod Header
+pub mod Commands
 pub mod Memory
 pub mod Slave
 pub mod Chain

@@ -48,3 +48,19 @@ bankLimit = 8
 -- Columns, P: "fewer than 64 bytes have passed".
 abbrev pub byteLimit : ℕ
 byteLimit = 64
+
+-- 000: "The 2-bit CMD": "it is possible to trigger 4 different commands".
+abbrev pub commandCount : ℕ
+commandCount = 4
+
+-- Request 07: the column after a command's S that answers IDA0: S's own. 000, Figure 33: S, "7 Cycles" and EX over IDA0 to IDA7.
+abbrev pub acknowledgeFirst : ℕ
+acknowledgeFirst = 0
+
+-- .. the column after S that holds EX of an addressed command: the one behind IDA7.
+abbrev pub executeAddressed : ℕ
+executeAddressed = acknowledgeFirst + idCount
+
+-- .. and of a broadcast. 000, Figure 34: "the BiSS Master directly sends the EX bit following the start bit (S)".
+abbrev pub executeBroadcast : ℕ
+executeBroadcast = 1

@@ -1,4 +1,5 @@
--- A slave's registers, rights and waiting number. Every other definition looks at them through allows, holds, stored and delay alone.
+-- A slave's registers, rights, waiting number and counts. Every other definition looks at them through allows, holds, stored, delay and
+-- counted alone.
 --
 -- Its registers lie bank after bank, and behind the banks the fixed ones; of one bank the place is the address. Its rights lie alike.
 --
@@ -9,17 +10,18 @@ use mathlib.Core.List.{List}
 use mathlib.Core.Option.{Option, none, some}
 use Prim.Native.Nat.{ℕ, _+_, _-_, _*_}
 use lib.Dec.{ltb, eqb}
-use lib.ListN.{getD, set}
-use Rattle.protocol.specs.Limits.{bankSize, bankRegister}
+use lib.ListN.{getD, set, replicate}
+use Rattle.protocol.specs.Limits.{bankSize, bankRegister, commandCount}
 use Rattle.protocol.specs.Bits.{num, bit}
 
 -- "A slave has .. registers and one right for each". Request 05: "1 to 8 banks of 64 bytes .. with rights of their own". Request 03: "Each
--- slave gets a waiting number".
+-- slave gets a waiting number". Request 07: "a count of executions for each slave and code".
 pub record Memory : Type 0 where
   pub banks : ℕ
   pub registers : List ℕ
   pub rights : List ℕ
   pub wait : ℕ
+  pub counts : List ℕ
 
 -- Request 05: "the bank register chooses": the number in it.
 unfoldable pub chosen : Memory → ℕ
@@ -53,7 +55,8 @@ putAt l (some i) value = set l i value
 
 -- The memory with one of its places changed; all else stays.
 abbrev pub changed : Memory → Option ℕ → ℕ → Memory
-changed k p value = record { banks = k .banks; registers = putAt (k .registers) p value; rights = k .rights; wait = k .wait }
+changed k p value =
+    record { banks = k .banks; registers = putAt (k .registers) p value; rights = k .rights; wait = k .wait; counts = k .counts }
 
 -- "0 none, 1 read, 2 write, 3 both": the low bit allows a read, the high bit a write. Where no register is shown there is no right.
 unfoldable pub allows : Memory → (write : Bool) → ℕ → Bool
@@ -75,3 +78,16 @@ delayBy wait write nth = cond (write && eqb nth 1) 0 wait
 -- .. by a slave.
 unfoldable pub delay : Memory → (write : Bool) → (nth : ℕ) → ℕ
 delay k write nth = delayBy (k .wait) write nth
+
+-- Request 07: "from 0 in each run".
+abbrev pub uncounted : List ℕ
+uncounted = replicate commandCount 0
+
+-- Counts with one execution more of a code ..
+unfoldable pub oneMore : (counts : List ℕ) → (cmd : ℕ) → List ℕ
+oneMore counts cmd = set counts cmd (getD counts cmd 0 + 1)
+
+-- .. in a memory: "An executed one changes nothing in the chain but its counts".
+unfoldable pub counted : Memory → (cmd : ℕ) → Memory
+counted k cmd =
+    record { banks = k .banks; registers = k .registers; rights = k .rights; wait = k .wait; counts = oneMore (k .counts) cmd }

@@ -1,9 +1,10 @@
 -- The reader: two rows alone, column by column, from power-on; the list of entries that they show.
--- It does not judge the answers at S, in columns 10 to 15 after S, at a 0 in a byte's S, or at a fourteenth zero.
+-- It does not judge the answers at S, in columns 10 to 15 after S, at a 0 in a byte's S or a command's, at S of a broadcast, at EX, or at
+-- a fourteenth zero.
 use mathlib.Core.Bool.{Bool, true, false, cond, _&&_, _||_, Bool·beq}
 use mathlib.Core.List.{List, [], _∷_}
 use mathlib.Core.Option.{Option}
-use Prim.Native.Nat.{ℕ, zero, suc, _+_, _-_, _*_}
+use Prim.Native.Nat.{ℕ, zero, suc, _+_, _-_, _*_, _%_, _^_}
 use lib.Dec.{ltb}
 use lib.ListN.{drop}
 use Rattle.protocol.specs.Limits.{headerColumns, idCount, lockFirst, lockLast, addressCount, byteLimit}
@@ -13,6 +14,7 @@ use Rattle.protocol.specs.Machine as machine
 use Rattle.protocol.specs.Machine.{go, gives, listing}
 use Rattle.protocol.specs.Division.{dataBits, topBit, fits, byteOf}
 use Rattle.protocol.specs.Header.{Header, wrong, access, command, header}
+use Rattle.protocol.specs.Commands.{broadcast, acknowledgement, executeColumn}
 use Rattle.protocol.specs.Entries.{Kind, Event, event, Place, opened, onward, Entry, note}
 use Rattle.protocol.specs.Banks.{Banked, unknown, banked}
 
@@ -34,8 +36,9 @@ seen idl mixed x = mixed
 abbrev pub seenAt : (column : ℕ) → Locks → Bool → Locks
 seenAt column l x = cond (ltb column lockFirst) l (seen (column - lockFirst) l x)
 
--- `column` counts from 1 after S; `nth` is the byte's place in the access, from 1; `unconfirmed` says that its S came and was not confirmed;
--- `left` counts a byte's bits down.
+-- `column` counts from 1 after S, and behind a command's header from 0 at its S; `nth` is the byte's place in the access, from 1;
+-- `unconfirmed` says that its S came and was not confirmed; `left` counts a byte's bits down; `fitting` says that each answer to a command was
+-- as it should be so far.
 pub data Phase : Type 0 where
   deaf : Phase
   locks : (column so-far : ℕ) → Locks → Phase
@@ -46,6 +49,8 @@ pub data Phase : Type 0 where
   reads : (id address nth left so-far : ℕ) → Phase
   writes : (id address nth left so-far : ℕ) → (echoed : Bool) → Phase
   askP : (write : Bool) → (id address nth : ℕ) → Phase
+  acknowledge : (column ids cmd lock so-far : ℕ) → (fitting : Bool) → Phase
+  askEX : (ids cmd : ℕ) → (fitting : Bool) → Phase
 
 -- What a column makes of the reader in a frame: its next phase, and perhaps an event ..
 abbrev pub Look : Type 0
@@ -64,7 +69,7 @@ locked column so-far mixed = gives (event Kind.lockodd 0 0 0) deaf
 -- badhead: "last header column, check wrong". command: "last header column, CTS 0, check right", "id = CMD, value = IDS".
 unfoldable pub headed : Header → (lock : ℕ) → Look
 headed wrong lock = gives (event Kind.badhead 0 0 0) deaf
-headed (command ids cmd) lock = gives (event Kind.command cmd 0 ids) deaf
+headed (command ids cmd) lock = gives (event Kind.command cmd 0 ids) (acknowledge 0 ids cmd lock 0 true)
 headed (access id address) lock = go (askR id address lock)
 
 -- odd: "any other answer at W but acceptance by a locked ID (value = 2 x answered R + answered W)".
@@ -99,6 +104,22 @@ readKind word = cond (fits dataBits word) Kind.read Kind.readbad
 abbrev pub writeKind : (word : ℕ) → (echoed : Bool) → Kind
 writeKind word echoed = cond (fits dataBits word) (cond echoed Kind.written Kind.echo) Kind.writebad
 
+-- Request 07: an answer fits the locks and IDS. In a broadcast none is judged: 000, "the IDA bits are omitted".
+abbrev pub fitsIDA : (column ids lock : ℕ) → (x : Bool) → Bool
+fitsIDA column ids lock x = broadcast ids || Bool·beq x (acknowledgement column ids lock)
+
+-- ackodd: the eight answers do not fit, in IDA7's column; they are its value. EX is read all the same.
+abbrev pub acknowledged : (column ids cmd lock so-far : ℕ) → (fitting x : Bool) → Look
+acknowledged column ids cmd lock so-far fitting x =
+    let still-fitting : Bool = fitting && fitsIDA column ids lock x in
+    cond (ltb (column + 1) (executeColumn ids)) (go (acknowledge (column + 1) ids cmd lock (push so-far x) still-fitting))
+    (cond still-fitting (go (askEX ids cmd true))
+    (gives (event Kind.ackodd cmd 0 (push so-far x % 2 ^ idCount)) (askEX ids cmd false)))
+
+-- executed: EX = 1. forced: EX = 1 after an acknowledgement that does not fit.
+abbrev pub executedKind : (fitting : Bool) → Kind
+executedKind fitting = cond fitting Kind.executed Kind.forced
+
 -- "Address is the header's up to W, then that of the byte which S opens, the bits carry or P closes."
 unfoldable pub look : Phase → (m x : Bool) → Look
 look deaf m x = go deaf
@@ -130,6 +151,12 @@ look (askP write id address nth) m true = gives (event Kind.closed id address 0)
 look (askP write id address nth) m false =
     cond (ltb (address + 1) addressCount && ltb nth byteLimit) (go (byteS write id (address + 1) (nth + 1) false))
     (gives (event Kind.odd id address 4) deaf)
+look (acknowledge zero ids cmd lock so-far fitting) false x = go deaf
+look (acknowledge zero ids cmd lock so-far fitting) true x = acknowledged zero ids cmd lock so-far fitting x
+look (acknowledge (suc column) ids cmd lock so-far fitting) m x = acknowledged (suc column) ids cmd lock so-far fitting x
+-- withheld: EX = 0. "id = CMD, value = IDS", as of a `command`.
+look (askEX ids cmd fitting) false x = gives (event Kind.withheld cmd 0 ids) deaf
+look (askEX ids cmd fitting) true x = gives (event (executedKind fitting) cmd 0 ids) deaf
 
 -- "A deaf reader still gives `end`."
 abbrev pub stepped : Judged Phase → (m x : Bool) → Step

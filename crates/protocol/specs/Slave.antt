@@ -3,16 +3,18 @@ use mathlib.Core.Bool.{Bool, true, false, cond, not, _&&_, Bool·beq}
 use mathlib.Core.Option.{Option, none, some}
 use Prim.Native.Nat.{ℕ, zero, suc, _+_, _-_}
 use lib.Dec.{ltb, eqb}
-use Rattle.protocol.specs.Limits.{headerColumns, lockFirst, lockLast, addressCount, byteLimit}
+use Rattle.protocol.specs.Limits.{headerColumns, lockFirst, lockLast, addressCount, byteLimit, acknowledgeFirst}
 use Rattle.protocol.specs.Bits.{bit, push}
 use Rattle.protocol.specs.Rest.{Timed, Judged, judge}
 use Rattle.protocol.specs.Machine as machine
 use Rattle.protocol.specs.Division.{dataBits, topBit, word, fits, byteOf}
 use Rattle.protocol.specs.Header.{Header, wrong, access, command, header}
-use Rattle.protocol.specs.Memory.{Memory, allows, holds, stored, delay}
+use Rattle.protocol.specs.Commands.{selects, concerns, executeColumn}
+use Rattle.protocol.specs.Memory.{Memory, allows, holds, stored, delay, counted}
 
--- Where a slave is in a frame. `column` counts from 1 after S; `so-far` and `what` are the bits taken, and those to send, as a number;
--- `nth` is the byte's place in the access, from 1; `unconfirmed` is how often its S came and was not confirmed; `left` counts a byte's bits down.
+-- Where a slave is in a frame. `column` counts from 1 after S, and behind a command's header from 0 at its S; `so-far` and `what` are the bits
+-- taken, and those to send, as a number; `nth` is the byte's place in the access, from 1; `unconfirmed` is how often its S came and was not
+-- confirmed; `left` counts a byte's bits down.
 pub data Phase : Type 0 where
   deaf : Phase
   locks : (column so-far : ℕ) → (number : Option ℕ) → Phase
@@ -23,6 +25,8 @@ pub data Phase : Type 0 where
   sends : (address nth left what : ℕ) → Phase
   takes : (address nth left so-far : ℕ) → Phase
   askP : (write good : Bool) → (address nth : ℕ) → Phase
+  acknowledge : (column ids cmd : ℕ) → (number : Option ℕ) → Phase
+  askEX : (cmd : ℕ) → (concerned : Bool) → Phase
 
 -- What a slave says in a column: the bit it sends, and its memory afterwards.
 pub record Reply : Type 0 where
@@ -65,10 +69,11 @@ abbrev pub lockNext : (column so-far : ℕ) → Option ℕ → Phase
 lockNext column so-far number =
     cond (ltb column lockLast) (locks (column + 1) so-far number) (head (column + 1) so-far number)
 
--- "Wrong header check, or a command: all slaves go deaf until rest." R and W: "All other slaves are deaf from R on."
+-- "Wrong header check ..: all slaves go deaf until rest." 000: after a command's header "another start bit (S)" to all of them, since each
+-- "need[s] to process the upcoming BiSS Command frame". R and W: "All other slaves are deaf from R on."
 unfoldable pub called : Header → Option ℕ → Phase
 called wrong number = deaf
-called (command ids cmd) number = deaf
+called (command ids cmd) number = acknowledge 0 ids cmd number
 called (access id address) none = deaf
 called (access id address) (some i) = cond (eqb i id) (askR address) deaf
 
@@ -84,6 +89,17 @@ confirmed k true address nth = takes address nth topBit 0
 -- Byte, writing: "at the last check bit stores the byte if the check is right".
 abbrev pub took : Memory → (address word : ℕ) → Memory
 took k address word = cond (fits dataBits word) (stored k address (byteOf word)) k
+
+-- 000: "all BiSS Slaves addressed by IDS acknowledge .. with an ID acknowledge bit (IDA)", each in its own column; all else passes on. The
+-- ID that is held and not addressed "send[s] IDA = 0", which is what it sees there.
+abbrev pub acknowledged : (column ids : ℕ) → (number : Option ℕ) → Bool → Bool
+acknowledged column ids none b = b
+acknowledged column ids (some id) b = cond (eqb column (acknowledgeFirst + id) && selects ids id) true b
+
+-- 000: "7 Cycles" of acknowledgement, in a broadcast none, and then EX.
+abbrev pub acknowledgeNext : (column ids cmd : ℕ) → (number : Option ℕ) → Phase
+acknowledgeNext column ids cmd number =
+    cond (ltb (column + 1) (executeColumn ids)) (acknowledge (column + 1) ids cmd number) (askEX cmd (concerns ids number))
 
 -- What a slave in a frame does in one column, in the paper's order.
 unfoldable pub speak : Memory → Phase → (m b : Bool) → Turn
@@ -119,6 +135,13 @@ speak k (takes address nth zero so-far) m b =
 -- after a written byte with a wrong check it also answers 1."
 speak k (askP write good address nth) m b =
     cond (good && more k write address nth) (turn (byteS write (address + 1) (nth + 1) 0) false k) (turn deaf true k)
+-- Request 07, a command's S: a 0 ends the frame for it. The master's bits between S and EX are not judged.
+speak k (acknowledge zero ids cmd number) false b = turn deaf b k
+speak k (acknowledge zero ids cmd number) true b = turn (acknowledgeNext zero ids cmd number) (acknowledged zero ids number b) k
+speak k (acknowledge (suc column) ids cmd number) m b =
+    turn (acknowledgeNext (suc column) ids cmd number) (acknowledged (suc column) ids number b) k
+-- 000: "triggering the actual execution with the execute bit (EX)". "A command whose execution was not sent changes no count."
+speak k (askEX cmd concerned) m b = turn deaf b (cond (m && concerned) (counted k cmd) k)
 
 -- A slave: its memory, and where it is.
 pub record Slave : Type 0 where

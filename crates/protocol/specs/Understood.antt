@@ -9,6 +9,7 @@ use Prim.Native.Nat.{ℕ, zero, suc, _+_, _*_, _≤_, _<_, min}
 use lib.ListN.{length, getElem?}
 use Rattle.protocol.specs.Limits.{restZeros, headerColumns, idCount, lockLast, addressCount, byteLimit}
 use Rattle.protocol.specs.Division.{topBit}
+use Rattle.protocol.specs.Commands.{executeColumn}
 use Rattle.protocol.specs.Memory.{Memory, allows, holds}
 use Rattle.protocol.specs.Slave.{more}
 use Rattle.protocol.specs.Chain.{answersFrom}
@@ -43,6 +44,11 @@ lockShown ks = inFrame (restZeros + lockLast) (event Kind.lock 0 0 (min (idCount
 -- command: "last header column .. id = CMD, value = IDS".
 abbrev pub commandShown : (ids cmd : ℕ) → Entry
 commandShown ids cmd = inFrame (restZeros + headerColumns) (event Kind.command cmd 0 ids)
+
+-- executed, withheld: in EX's column, behind the command's S in column 30.
+abbrev pub executionShown : (ids cmd : ℕ) → (execute : Bool) → Entry
+executionShown ids cmd execute =
+    inFrame (restZeros + headerColumns + 1 + executeColumn ids) (event (cond execute Kind.executed Kind.withheld) cmd 0 ids)
 
 -- Request 03: "Every byte of a read waits; in a write the first byte does not, later ones do": how many of the first n wait.
 abbrev pub delayed : (write : Bool) → ℕ → ℕ

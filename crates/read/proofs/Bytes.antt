@@ -13,9 +13,10 @@ use Rattle.protocol.specs.Bits.{num, bit, push, rowOf}
 use Rattle.protocol.specs.Rest.{Timed, powerOn}
 use Rattle.protocol.specs.Division.{headerBits, checkWidth, fits, byteOf}
 use Rattle.protocol.specs.Header.{Header, wrong, access, command, header}
+use Rattle.protocol.specs.Commands.{executeColumn}
 use Rattle.protocol.specs.Entries.{Kind, table, Event, event, Place, opened, onward, Entry}
 use Rattle.protocol.specs.Banks.{Banked, noBank, unknown, choosesBank, learnt, namesBank, bankOf, banked}
-use Rattle.protocol.specs.Reader.{Locks, ones, upto, mixed, seen, seenAt, Phase, deaf, locks, head, askR, askW, byteS, reads, writes, askP, Look, locked, headed, oddAnswer, asked, readKind, writeKind, look, step, Column, col, columns, entries, entriesFrom, listFrom}
+use Rattle.protocol.specs.Reader.{Locks, ones, upto, mixed, seen, seenAt, Phase, deaf, locks, head, askR, askW, byteS, reads, writes, askP, acknowledge, askEX, Look, locked, headed, oddAnswer, asked, readKind, writeKind, fitsIDA, acknowledged, executedKind, look, step, Column, col, columns, entries, entriesFrom, listFrom}
 use Rattle.laws.proofs.Every.{Every, IfAny, either, tested, both}
 use Rattle.laws.proofs.Places.{set-keeps}
 use Rattle.protocol.proofs.Machine.{At, keeps, every-note}
@@ -35,7 +36,7 @@ event-bytes k id address value i a v =
     let none : Byte 0 = omega arith in
     (either Byte (table k .has-id) i none, either Byte (table k .has-address) a none, either Byte (table k .has-value) v none)
 
--- What a reader holds: the lock counted so far, and the header's ID and address or the next one.
+-- What a reader holds: the lock counted so far, the header's ID and address or the next one, or a command's IDS and CMD.
 abbrev Counted : Locks → Type 0
 Counted ones = Unit {0}
 Counted (upto n) = Byte n
@@ -51,6 +52,8 @@ Held (byteS write id address nth unconfirmed) = Byte id × Byte address
 Held (reads id address nth left so-far) = Byte id × Byte address
 Held (writes id address nth left so-far echoed) = Byte id × Byte address
 Held (askP write id address nth) = Byte id × Byte address
+Held (acknowledge column ids cmd lock so-far fitting) = Byte ids × Byte cmd
+Held (askEX ids cmd fitting) = Byte ids × Byte cmd
 
 -- What a column makes of it.
 abbrev Good : Look → Type 0
@@ -94,7 +97,17 @@ good-headed : (h : Header) (lock : ℕ) → Said h → Good (headed h lock)
 unfolding headed
 good-headed wrong lock h = (tt, event-bytes Kind.badhead 0 0 0 (omega arith) (omega arith) (omega arith))
 good-headed (access id address) lock h = (h, tt)
-good-headed (command ids cmd) lock h = (tt, event-bytes Kind.command cmd 0 ids (h .1) (omega arith) (h .0))
+good-headed (command ids cmd) lock h = (h, event-bytes Kind.command cmd 0 ids (h .1) (omega arith) (h .0))
+
+-- The answers to a command, and EX.
+module _ (ids cmd : ℕ) (h : Byte ids × Byte cmd) where
+  good-command : (k : Kind) (value : ℕ) → Byte value → Bytes (event k cmd 0 value)
+  good-command k value v = event-bytes k cmd 0 value (h .1) (omega arith) v
+
+  good-acknowledged : (column lock so-far : ℕ) (fitting x : Bool) → Good (acknowledged column ids cmd lock so-far fitting x)
+  good-acknowledged column lock so-far fitting x =
+      either Good (ltb (column + 1) (executeColumn ids)) (h, tt)
+      (either Good (fitting && fitsIDA column ids lock x) (h, tt) (h, good-command Kind.ackodd (push so-far x % 2 ^ idCount) (omega arith)))
 
 -- The answers at W.
 num-low : (w : Bool) → num w < 2
@@ -146,6 +159,11 @@ good-look (askP write id address nth) m false h =
     let next : address + 1 < addressCount = ltb-true _ _ (both _ _ q .0) in
     rw q ((h .0, omega arith), tt))
     (λ q. rw q (tt, good-event id address (h .0) (h .1) Kind.odd 4 (omega arith)))
+good-look (acknowledge zero ids cmd lock so-far fitting) false x h = (tt, tt)
+good-look (acknowledge zero ids cmd lock so-far fitting) true x h = good-acknowledged ids cmd h zero lock so-far fitting x
+good-look (acknowledge (suc column) ids cmd lock so-far fitting) m x h = good-acknowledged ids cmd h (suc column) lock so-far fitting x
+good-look (askEX ids cmd fitting) false x h = (tt, good-command ids cmd h Kind.withheld ids (h .0))
+good-look (askEX ids cmd fitting) true x h = (tt, good-command ids cmd h (executedKind fitting) ids (h .0))
 
 -- The same behind the timer.
 good-step : (s : Timed Phase) (m x : Bool) → At Held s → At Held (step s m x .state) × IfAny Bytes (step s m x .says)

@@ -5,13 +5,13 @@ use Prim.Native.Nat.{ℕ, _+_, _-_, _/_, _%_, _^_, _≤_, _<_, min}
 use native.Mathlib.Nat.{mod-mod}
 use native.Mathlib.Omega.{arith}
 use borrow.Author.Tests.{lt-ltb, le-ltb, ne-eqb}
-use Rattle.protocol.specs.Limits.{headerColumns, idCount, lockFirst, lockLast, addressCount}
+use Rattle.protocol.specs.Limits.{headerColumns, idCount, lockFirst, lockLast, addressCount, commandCount}
 use Rattle.protocol.specs.Bits.{push, bit}
 use Rattle.protocol.specs.Division.{headerBits, checkWidth, fits}
 use Rattle.protocol.specs.Header.{header}
 use Rattle.protocol.specs.Machine.{go}
 use Rattle.protocol.specs.Reader as protocol
-use Rattle.protocol.specs.Reader.{Locks, ones, upto, mixed, deaf, locks, head, askR, Look, locked, headed, look}
+use Rattle.protocol.specs.Reader.{Locks, ones, upto, mixed, deaf, locks, head, askR, acknowledge, Look, locked, headed, look}
 use Rattle.reader.specs.Code.{lockBound, said, nothing, seenBy, seen}
 
 -- A lock column before IDL8's, and IDL8's.
@@ -140,6 +140,8 @@ module _ (p w w′ : ℕ) (m x : Bool) (q : w′ ≡ push w m) where
           rw (head-last h, ← e, k, b, mod-mod (w′ / 2 ^ checkWidth / addressCount) idCount, mod-mod (w′ / 2 ^ checkWidth) addressCount)
 
       pub head-command : headerColumns - 1 ≤ p → f ≡ true → (w′ / 2 ^ checkWidth / 2 ^ 10 % 2 ≡ 1 → ⊥)
-          → seenBy deaf (said 4 (w′ / 2 ^ checkWidth % 2 ^ 2) 0 (w′ / 2 ^ checkWidth / 2 ^ 2 % 2 ^ 8)) ≡ seen in-head
+          → seenBy (acknowledge 0 (w′ / 2 ^ checkWidth / 2 ^ 2 % 2 ^ 8 % 2 ^ idCount) (w′ / 2 ^ checkWidth % 2 ^ 2 % commandCount) l 0 true)
+          (said 4 (w′ / 2 ^ checkWidth % 2 ^ 2) 0 (w′ / 2 ^ checkWidth / 2 ^ 2 % 2 ^ 8)) ≡ seen in-head
       unfolding header headed bit
-      head-command h k b = rw (head-last h, ← e, k, ne-eqb (w′ / 2 ^ checkWidth / 2 ^ 10 % 2) 1 b)
+      head-command h k b =
+          rw (head-last h, ← e, k, ne-eqb (w′ / 2 ^ checkWidth / 2 ^ 10 % 2) 1 b, mod-mod (w′ / 2 ^ checkWidth / 2 ^ 2) (2 ^ idCount), mod-mod (w′ / 2 ^ checkWidth) commandCount)

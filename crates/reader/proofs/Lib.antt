@@ -1,4 +1,5 @@
 pub mod Turns
 pub mod Heads
 pub mod Accesses
+pub mod Commands
 mod Unique

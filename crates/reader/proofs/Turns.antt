@@ -15,7 +15,7 @@ use Rattle.machine.specs.Zeros.{zerosAfter, judgedAt, endedAt}
 use Rattle.machine.proofs.Zeros.{judge-on, judge-out, framed-timed}
 use Rattle.reader.specs.Code.{formBy, stateBy, stateOf, nothing, ending, placeBy, placeOf, seenBy, seen, moved, after, Made, MeetsAt, Meets, ended, Steps}
 use Rattle.reader.specs.declared.Phase.{Phase}
-use Rattle.reader.specs.declared.Phase.the-variants.{Power, Rest, Deaf, Ones, Upto, Mixed, Head, AskR, AskW, ByteS, Reads, Writes, AskP}
+use Rattle.reader.specs.declared.Phase.the-variants.{Power, Rest, Deaf, Ones, Upto, Mixed, Head, AskR, AskW, ByteS, Reads, Writes, AskP, Acknowledge, AskEX}
 use Rattle.reader.specs.declared.Body.{Body}
 use Rattle.reader.specs.declared.Reader.{Reader}
 use Rattle.reader.specs.declared.Event.{Event}
@@ -55,7 +55,7 @@ ends-so (frame z q) p m x = refl
 
 -- The phases of a frame, by their places: for each the fourteenth zero gives an event.
 abbrev begun-phases : List ℕ
-begun-phases = 0 ∷ 1 ∷ 2 ∷ 3 ∷ 4 ∷ 5 ∷ 6 ∷ 7 ∷ 8 ∷ 9 ∷ 10 ∷ []
+begun-phases = 0 ∷ 1 ∷ 2 ∷ 3 ∷ 4 ∷ 5 ∷ 6 ∷ 7 ∷ 8 ∷ 9 ∷ 10 ∷ 13 ∷ 14 ∷ []
 
 pub begun-ends : (phase : Phase) (b : Body) → OneOf begun-phases (tagOf the-type phase) → ended (formBy phase b) ≡ ending
 begun-ends Deaf b h = refl
@@ -71,6 +71,8 @@ begun-ends Writes b h = refl
 begun-ends AskP b h = refl
 begun-ends Power b h = absurd (miss begun-phases 11 tt h)
 begun-ends Rest b h = absurd (miss begun-phases 12 tt h)
+begun-ends Acknowledge b h = refl
+begun-ends AskEX b h = refl
 
 -- A column by the zeros counted.
 module _ (s : Reader) (column : ℕ) (m x : Bool) (r : Stepped) {z′ : ℕ} (e : z′ ≡ zerosAfter (s .zeros) m) where

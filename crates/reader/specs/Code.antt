@@ -1,20 +1,20 @@
 -- What the code's state is to protocol's reader, for the contracts of this crate: nothing here is needed to read what read promises.
 -- Every value of the code's types is some state of the definitions, so no contract asks anything of a state.
 use mathlib.Core.Path.{_≡_}
-use mathlib.Core.Bool.{Bool, cond}
+use mathlib.Core.Bool.{Bool, cond, not}
 use mathlib.Core.Option.{Option, none, some}
-use Prim.Native.Nat.{ℕ, suc, _+_, _-_, _%_, _<_, min}
-use Rattle.protocol.specs.Limits.{idCount, lockFirst, lockLast, addressCount}
+use Prim.Native.Nat.{ℕ, suc, _+_, _-_, _%_, _^_, _<_, min}
+use Rattle.protocol.specs.Limits.{idCount, lockFirst, lockLast, addressCount, commandCount, executeAddressed}
 use Rattle.protocol.specs.Bits.{bitOf}
 use Rattle.protocol.specs.Rest.{Timed, power, rest, frame, framed}
 use Rattle.protocol.specs.Machine.{Turn}
 use Rattle.protocol.specs.Entries as entries
 use Rattle.protocol.specs.Entries.{Place, onward}
 use Rattle.protocol.specs.Reader as protocol
-use Rattle.protocol.specs.Reader.{ones, upto, mixed, deaf, locks, head, askR, askW, byteS, reads, writes, askP, Look, begun, Step, stepped, step}
+use Rattle.protocol.specs.Reader.{ones, upto, mixed, deaf, locks, head, askR, askW, byteS, reads, writes, askP, acknowledge, askEX, Look, begun, Step, stepped, step}
 use Rattle.machine.specs.Zeros.{timed, judgedAt}
 use Rattle.reader.specs.declared.Phase.{Phase}
-use Rattle.reader.specs.declared.Phase.the-variants.{Power, Rest, Deaf, Ones, Upto, Mixed, Head, AskR, AskW, ByteS, Reads, Writes, AskP}
+use Rattle.reader.specs.declared.Phase.the-variants.{Power, Rest, Deaf, Ones, Upto, Mixed, Head, AskR, AskW, ByteS, Reads, Writes, AskP, Acknowledge, AskEX}
 use Rattle.reader.specs.declared.Body.{Body}
 use Rattle.reader.specs.declared.Reader.{Reader}
 use Rattle.reader.specs.declared.Event.{Event}
@@ -44,6 +44,18 @@ columnOf b = min (b .place) (lockLast - 1) + 1
 abbrev pub lockColumn : Body → ℕ
 lockColumn b = lockFirst + min (b .place) idCount
 
+-- A command's IDS ..
+abbrev pub idsOf : Body → ℕ
+idsOf b = b .asked % 2 ^ idCount
+
+-- .. its CMD ..
+abbrev pub cmdOf : Body → ℕ
+cmdOf b = b .id % commandCount
+
+-- .. and the column after its S, up to EX.
+abbrev pub commandColumn : Body → ℕ
+commandColumn b = b .place % executeAddressed
+
 -- What a phase is with its numbers, no zeros counted ..
 abbrev pub formBy : Phase → Body → Timed protocol.Phase
 formBy Power b = power 0
@@ -59,6 +71,8 @@ formBy ByteS b = frame 0 (byteS (bitOf (b .asked)) (idOf b) (addressOf b) (b .co
 formBy Reads b = frame 0 (reads (idOf b) (addressOf b) (b .count) (b .place) (b .word))
 formBy Writes b = frame 0 (writes (idOf b) (addressOf b) (b .count) (b .place) (b .word) (bitOf (b .answered)))
 formBy AskP b = frame 0 (askP (bitOf (b .asked)) (idOf b) (addressOf b) (b .count))
+formBy Acknowledge b = frame 0 (acknowledge (commandColumn b) (idsOf b) (cmdOf b) (lockOf b) (b .word) (bitOf (b .answered)))
+formBy AskEX b = frame 0 (askEX (idsOf b) (cmdOf b) (bitOf (b .answered)))
 
 -- .. with as many zeros in a row as it saw just now ..
 abbrev pub stateBy : Phase → (zeros : ℕ) → Body → Timed protocol.Phase

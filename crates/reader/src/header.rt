@@ -9,6 +9,7 @@ use crate::made::gives;
 use crate::made::go;
 use machine::ADDRESSES;
 use machine::CHECKS;
+use machine::COMMANDS;
 use machine::CTS;
 use machine::HEADER;
 use machine::IDS;
@@ -23,8 +24,6 @@ const IDL8: u64 = LOCK_LAST - 1;
 const LAST: u64 = HEADER - 1;
 // lock: "9 if IDL8 is 1 after eight".
 const PAST_EIGHT: u64 = IDS + 1;
-// Header: "CMD (2)", below IDS.
-const COMMANDS: u64 = 4;
 
 // Before IDL0, or ones alone so far. lock: "or 9 if IDL8 is 1 after eight".
 pub fn ones(zeros: u64, body: Body, m: bool, x: bool) -> Stepped
@@ -116,7 +115,13 @@ pub fn head(zeros: u64, body: Body, m: bool, x: bool) -> Stepped
             go(Phase::AskR, zeros, n)
         } else {
             let ids = v / COMMANDS % 256;
-            gives(Phase::Deaf, zeros, n, kinds::COMMAND, v % COMMANDS, 0, ids)
+            let cmd = v % COMMANDS;
+            n.asked = ids;
+            n.id = cmd;
+            n.place = 0;
+            n.word = 0;
+            n.answered = 1;
+            gives(Phase::Acknowledge, zeros, n, kinds::COMMAND, cmd, 0, ids)
         }
     } else {
         gives(Phase::Deaf, zeros, n, kinds::BADHEAD, 0, 0, 0)

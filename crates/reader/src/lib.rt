@@ -1,6 +1,7 @@
 // The reader's step (01, Entries): one column in, the next state and perhaps an event out. Phase and Body say where in a frame the
 // reader is; what a field holds in a phase that does not use it never matters.
 mod access;
+mod command;
 mod data;
 mod header;
 mod made;
@@ -10,6 +11,8 @@ ghost use Rattle.protocol.specs.Rest.{powerOn};
 ghost use Rattle.reader.specs.Code.{formBy, stateOf, placeOf, Made, MeetsAt, ended, Steps};
 use access::ask_r;
 use access::ask_w;
+use command::acknowledge;
+use command::ask_ex;
 use data::ask_p;
 use data::byte_s;
 use data::reads;
@@ -40,23 +43,29 @@ pub enum Phase {
     AskP,
     Power,
     Rest,
+    // A command's S and the answers to it; then its EX.
+    Acknowledge,
+    AskEX,
 }
 
 // Every field is 64 bits wide, a flag 0 or 1, so that each keeps a register of its own.
 pub struct Body {
     // The column of S, from S on.
     pub start: usize,
-    // The header's columns before this one, or once a lock was 0 those of the locks; in a byte, the bits after this one.
+    // The header's columns before this one, or once a lock was 0 those of the locks; in a byte, the bits after this one; behind a
+    // command's header, its columns before this one.
     pub place: u64,
     // The bits so far, the newest lowest.
     pub word: u64,
-    // The lock value up to W; then the byte's place in the access.
+    // The lock value up to W, and in a command; then the byte's place in the access.
     pub count: u64,
+    // In a command, CMD.
     pub id: u64,
     pub address: u64,
-    // The master's R; from W on, W.
+    // The master's R; from W on, W; in a command, IDS.
     pub asked: u64,
-    // The answer to R; at a byte's S, whether a 1 came before it unconfirmed; in a written byte, whether all bits so far were echoed.
+    // The answer to R; at a byte's S, whether a 1 came before it unconfirmed; in a written byte, whether all bits so far were echoed; in
+    // a command, whether all answers so far fit.
     pub answered: u64,
 }
 
@@ -146,6 +155,8 @@ fn goes_on(phase: Phase, zeros: u64, body: Body, column: usize, m: bool, x: bool
         Phase::Reads => reads(zeros, body, m, x),
         Phase::Writes => writes(zeros, body, m, x),
         Phase::AskP => ask_p(zeros, body, m, x),
+        Phase::Acknowledge => acknowledge(zeros, body, m, x),
+        Phase::AskEX => ask_ex(zeros, body, m, x),
     }
 }
 

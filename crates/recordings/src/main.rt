@@ -1,9 +1,11 @@
 // Reads small recordings, each kind of entry in at least two of them, and prints their lists: kind, column, start, id, address, bank,
-// value. A recording is a built request of 64 columns and one slave's answers to it, with a bit or two of either row flipped, or a slave
+// value. A recording is a built request of 64 columns and one slave's answers to it, with a bit or two of its rows flipped, or a slave
 // that waits.
 //
 //   column  0 .. 13  14  15 .. 23      24 .. 29   30  31  32  33 .. 40  41 .. 44  45
 //           zeros    S   header, IDL   header     R   W   S   data      check     P
+//   column  30       31 .. 37          38
+//           S, IDA0  IDA1 .. IDA7      EX         a command; in a broadcast EX is column 31
 ghost use Prim.Native.Nat.{_+_, _<_};
 use job::ENTRY_BYTES;
 use job::Outcome;
@@ -15,6 +17,7 @@ const NONE: usize = 64;
 
 fn main() {
     locks_and_headers();
+    commands();
     requests();
     bytes();
     waits();
@@ -38,12 +41,56 @@ fn locks_and_headers() {
         NONE,
     );
     recorded(b"a bit of its address\n", reading(0, 0x44), 3, 20, NONE);
-    recorded(b"a broadcast of CMD 2\n", commanding(0, 2), 3, NONE, NONE);
-    recorded(
-        b"CMD 1 for ID 0, whose bit is sent first\n",
-        commanding(0x80, 1),
-        3,
+}
+
+// ID 0 answers in column 30, ID 1 in column 31.
+fn commands() {
+    commanded(
+        b"a broadcast of CMD 2, executed\n",
+        commanding(0, 2, true),
         NONE,
+        NONE,
+    );
+    commanded(
+        b"CMD 1 for ID 0, whose bit is sent first, executed\n",
+        commanding(0x80, 1, true),
+        NONE,
+        NONE,
+    );
+    commanded(
+        b"a broadcast of CMD 2, withheld\n",
+        commanding(0, 2, false),
+        NONE,
+        NONE,
+    );
+    commanded(
+        b"CMD 1 for ID 0, withheld\n",
+        commanding(0x80, 1, false),
+        NONE,
+        NONE,
+    );
+    commanded(
+        b"ID 0 does not acknowledge, and EX is sent\n",
+        commanding(0x80, 1, true),
+        30,
+        NONE,
+    );
+    commanded(
+        b"ID 0 acknowledges in the column of ID 1\n",
+        commanding(0x80, 1, true),
+        30,
+        31,
+    );
+    commanded(
+        b"an ID that is not locked acknowledges\n",
+        commanding(0xc0, 3, true),
+        31,
+        NONE,
+    );
+    commanded(
+        b"ID 0 does not acknowledge, and EX is withheld\n",
+        commanding(0x80, 1, false),
+        30,
         NONE,
     );
 }
@@ -195,26 +242,32 @@ fn writing(id: u8, address: u8, value: u8) -> [u8; 64] {
     row
 }
 
-fn commanding(ids: u8, cmd: u8) -> [u8; 64] {
+fn commanding(ids: u8, cmd: u8, execute: bool) -> [u8; 64] {
     let mut row = [0u8; 64];
-    build::build_command(ids, cmd, &mut row);
+    build::build_command(ids, cmd, execute, &mut row);
     row
 }
 
 // A slave that does not wait, with the same right everywhere.
 fn recorded(what: &[u8], row: [u8; 64], right: u8, sent: usize, answered: usize) {
     io::write_all(STDOUT_FILENO, what);
-    shown(row, right, 0, sent, answered);
+    shown(row, right, 0, sent, answered, NONE);
+}
+
+// A slave with all rights that does not wait, and two bits of its answers.
+fn commanded(what: &[u8], row: [u8; 64], answered: usize, also: usize) {
+    io::write_all(STDOUT_FILENO, what);
+    shown(row, 3, 0, NONE, answered, also);
 }
 
 // A slave with all rights and a waiting number.
 fn waited(what: &[u8], row: [u8; 64], wait: u8) {
     io::write_all(STDOUT_FILENO, what);
-    shown(row, 3, wait, NONE, NONE);
+    shown(row, 3, wait, NONE, NONE, NONE);
 }
 
-// One slave, its register 44 holding 5A and the rest 0; one bit of the master row flipped before the run, one bit of the answers after it.
-fn shown(row: [u8; 64], right: u8, wait: u8, sent: usize, answered: usize) {
+// One slave, its register 44 holding 5A and the rest 0; one bit of the master row flipped before the run, two of the answers after it.
+fn shown(row: [u8; 64], right: u8, wait: u8, sent: usize, answered: usize, also: usize) {
     let mut cdm = row;
     flip(&mut cdm, sent);
     let mut registers = [0u8; 128];
@@ -223,8 +276,19 @@ fn shown(row: [u8; 64], right: u8, wait: u8, sent: usize, answered: usize) {
     let mut cds = [0u8; 64];
     let waits = [wait];
     let banks = [1u8];
-    run::run(1, &banks, &rights, &waits, &mut registers, &cdm, &mut cds);
+    let mut counts = [0u32; 4];
+    run::run(
+        1,
+        &banks,
+        &rights,
+        &waits,
+        &mut registers,
+        &mut counts,
+        &cdm,
+        &mut cds,
+    );
     flip(&mut cds, answered);
+    flip(&mut cds, also);
     let mut list = [0u8; ENTRY_BYTES * 64];
     match read::read(&cdm, &cds, 0, &mut list) {
         Outcome::Made(entries) => listed(&list, entries),

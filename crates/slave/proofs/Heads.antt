@@ -1,19 +1,25 @@
 -- The locks and the header, a law for each branch of the code, in the branch's own words. Assumes nothing.
-use mathlib.Core.Path.{_≡_, refl}
-use mathlib.Core.Bool.{Bool, true, false, cond}
+use mathlib.Core.Path.{_≡_, ap}
+use mathlib.Core.Bool.{Bool, true, false}
 use mathlib.Core.Option.{Option}
 use Prim.Native.Nat.{ℕ, _+_, _-_, _/_, _%_, _^_, _≤_, _<_, min}
 use native.Mathlib.Nat.{mod-mod}
 use native.Mathlib.Omega.{arith}
-use borrow.Author.Tests.{lt-ltb, le-ltb, eq-eqb, ne-eqb, ltb-false}
-use lib.Dec.{ltb, eqb}
+use borrow.Author.Tests.{lt-ltb, le-ltb, eq-eqb, ne-eqb}
+use lib.Dec.{ltb}
 use Rattle.protocol.specs.Limits.{headerColumns, idCount, lockFirst, lockLast, addressCount}
 use Rattle.protocol.specs.Bits.{bit, push}
+use Rattle.protocol.specs.Rest.{frame}
 use Rattle.protocol.specs.Division.{headerBits, checkWidth, fits}
-use Rattle.protocol.specs.Header.{access, header}
+use Rattle.protocol.specs.Header.{header}
 use Rattle.protocol.specs.Memory.{Memory}
 use Rattle.protocol.specs.Slave as protocol
-use Rattle.slave.specs.Code.{numberOf, nextColumn, lockedAs, CalledAs}
+use Rattle.laws.proofs.Every.{tested}
+use Rattle.machine.specs.Zeros.{timed}
+use Rattle.slave.specs.Code.{numberOf, nextColumn, stateBy, lockedAs, CalledAs}
+use Rattle.slave.specs.declared.Phase.{Phase}
+use Rattle.slave.specs.declared.Phase.the-variants.{Deaf, AskR, Acknowledge}
+use Rattle.slave.specs.declared.Body.{Body}
 
 abbrev lockBy : ℕ → Bool → protocol.Lock
 lockBy number sent = record { number = numberOf number; sent = sent }
@@ -87,41 +93,51 @@ module _ (k : Memory) (column w number : ℕ) (m b : Bool) {w′ : ℕ} where
       let next : min (column + 1) (headerColumns + 1) ≡ min column (headerColumns + 1) + 1 = omega arith in
       rw (e, next, lt-ltb (min column (headerColumns + 1)) headerColumns (omega arith))
 
-  pub head-called : {r : Bool} → w′ ≡ push w m → headerColumns ≤ column → CalledAs w′ number r → r ≡ true
+  pub head-called : w′ ≡ push w m → headerColumns ≤ column
       → protocol.speak k (protocol.head (min column (headerColumns + 1)) w (numberOf number)) m b
-      ≡ protocol.turn (protocol.askR (w′ / 2 ^ checkWidth % addressCount % addressCount)) b k
-  unfolding protocol.speak CalledAs
-  head-called e h g t =
-      rw (
-        le-ltb (min column (headerColumns + 1)) headerColumns (omega arith),
-        ← e,
-        g,
-        t,
-        mod-mod (w′ / 2 ^ checkWidth) addressCount,
-      )
+      ≡ protocol.turn (protocol.called (header w′) (numberOf number)) b k
+  unfolding protocol.speak
+  head-called e h = rw (le-ltb (min column (headerColumns + 1)) headerColumns (omega arith), ← e)
 
-  pub head-deaf : {r : Bool} → w′ ≡ push w m → headerColumns ≤ column → CalledAs w′ number r → r ≡ false
-      → protocol.speak k (protocol.head (min column (headerColumns + 1)) w (numberOf number)) m b ≡ protocol.turn protocol.deaf b k
-  unfolding protocol.speak CalledAs
-  head-deaf e h g t = rw (le-ltb (min column (headerColumns + 1)) headerColumns (omega arith), ← e, g, t)
+-- Where it leads, with the zeros counted.
+pub leads : (w number : ℕ) {phase : Phase} {zeros : ℕ} (b : Body) → CalledAs w number phase
+    → b .word ≡ w → b .number ≡ number → b .address ≡ w / 2 ^ checkWidth % addressCount → b .column ≡ 0
+    → stateBy phase zeros b ≡ frame zeros (protocol.called (header w) (numberOf number))
+leads w number {phase} {zeros} b c p q r s = ap (timed zeros) (c .over b p q r s)
 
--- A header's word: its check is wrong; it is a command; it is an access, and calls the slave of its ID alone.
-module _ (w number : ℕ) {f : Bool} where
-  pub called-wrong : f ≡ fits headerBits w → f ≡ false → CalledAs w number false
-  unfolding CalledAs protocol.called header
-  called-wrong e g = rw (← e, g)
+-- A header's word: its check is wrong; it is a command; it is an access, to the slave of its ID, and to another.
+module _ (w number : ℕ) {f : Bool} (e : f ≡ fits headerBits w) where
+  pub called-wrong : f ≡ false → CalledAs w number Deaf
+  unfolding protocol.called header
+  called-wrong g = record { over = λ b p q r s. rw (← e, g) }
 
-  pub called-command : f ≡ fits headerBits w → f ≡ true → (w / 2 ^ checkWidth / 2 ^ 10 % 2 ≡ 1 → ⊥) → CalledAs w number false
-  unfolding CalledAs protocol.called header bit
-  called-command e g h = rw (← e, g, ne-eqb (w / 2 ^ checkWidth / 2 ^ 10 % 2) 1 h)
+  module _ (g : f ≡ true) where
+    pub called-command : (w / 2 ^ checkWidth / 2 ^ 10 % 2 ≡ 1 → ⊥) → CalledAs w number Acknowledge
+    unfolding protocol.called header bit
+    called-command h = record { over = λ b p q r s. rw (p, q, s, ← e, g, ne-eqb (w / 2 ^ checkWidth / 2 ^ 10 % 2) 1 h) }
 
-  pub called-access : f ≡ fits headerBits w → f ≡ true → w / 2 ^ checkWidth / 2 ^ 10 % 2 ≡ 1
-      → CalledAs w number (eqb number (w / 2 ^ checkWidth / 2 ^ 7 % 2 ^ 3))
-  unfolding CalledAs protocol.called header bit
-  called-access e g h = rw (← e, g, eq-eqb (w / 2 ^ checkWidth / 2 ^ 10 % 2) 1 h) (id-of (ltb number idCount) refl)
-    where
-      id-of : (b : Bool) → ltb number idCount ≡ b
-          → protocol.called (access (w / 2 ^ checkWidth / 2 ^ 7 % 2 ^ 3) (w / 2 ^ checkWidth % 2 ^ 7)) (numberOf number)
-          ≡ cond (eqb number (w / 2 ^ checkWidth / 2 ^ 7 % 2 ^ 3)) (protocol.askR (w / 2 ^ checkWidth % 2 ^ 7)) protocol.deaf
-      id-of true q = rw q
-      id-of false q = rw (q, ne-eqb number (w / 2 ^ checkWidth / 2 ^ 7 % 2 ^ 3) (λ e. absurd (omega (arith, ltb-false number idCount q))))
+    module _ (h : w / 2 ^ checkWidth / 2 ^ 10 % 2 ≡ 1) where
+      pub called-here : number ≡ w / 2 ^ checkWidth / 2 ^ 7 % 2 ^ 3 → CalledAs w number AskR
+      unfolding protocol.called header bit
+      called-here i =
+          record {
+            over = λ b p q r s.
+                rw (
+                  r,
+                  mod-mod (w / 2 ^ checkWidth) addressCount,
+                  ← e,
+                  g,
+                  eq-eqb (w / 2 ^ checkWidth / 2 ^ 10 % 2) 1 h,
+                  lt-ltb number idCount (omega arith),
+                  eq-eqb number (w / 2 ^ checkWidth / 2 ^ 7 % 2 ^ 3) i,
+                );
+          }
+
+      pub called-elsewhere : (number ≡ w / 2 ^ checkWidth / 2 ^ 7 % 2 ^ 3 → ⊥) → CalledAs w number Deaf
+      unfolding protocol.called header bit
+      called-elsewhere i =
+          record {
+            over = λ b p q r s.
+                rw (← e, g, eq-eqb (w / 2 ^ checkWidth / 2 ^ 10 % 2) 1 h)
+                (tested (ltb number idCount) (λ t. rw (t, ne-eqb number (w / 2 ^ checkWidth / 2 ^ 7 % 2 ^ 3) i)) (λ t. rw t));
+          }

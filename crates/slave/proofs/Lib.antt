@@ -2,4 +2,5 @@ pub mod Turns
 pub mod Silence
 pub mod Heads
 pub mod Accesses
+pub mod Commands
 mod Unique

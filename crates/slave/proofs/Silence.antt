@@ -9,13 +9,14 @@ use types.Run.{OneOf, miss}
 use Rattle.protocol.specs.Rest.{Timed, power, rest, frame, waiting, running, timer, judge}
 use Rattle.protocol.specs.Memory.{Memory}
 use Rattle.protocol.specs.Slave as protocol
-use Rattle.protocol.specs.Slave.{deaf, locks, head, askR, askW, byteS, sends, takes, askP}
+use Rattle.protocol.specs.Slave.{deaf, locks, head, askR, askW, byteS, sends, takes, askP, acknowledge, askEX}
 use Rattle.laws.proofs.Every.{looked-up}
 use Rattle.protocol.proofs.Dress.{stepTo}
 use Rattle.machine.specs.Zeros.{timed}
 use Rattle.slave.specs.Code.{stateBy, unsaid, heardBy, waitedBy, saysNothing}
 use Rattle.slave.specs.declared.Phase.{Phase}
 use Rattle.slave.specs.declared.Phase.the-variants.{Power, Rest, Deaf, Locks, Head, AskR, AskW, ByteS, Sends, Takes, AskP}
+use Rattle.slave.specs.declared.Phase.the-variants.{Acknowledge, AskEX}
 use Rattle.slave.specs.declared.Body.{Body}
 use Rattle.slave.proofs.Phase.{the-type}
 
@@ -34,10 +35,12 @@ passes-on k (frame z (byteS write address nth unconfirmed)) m b e = absurd (fals
 passes-on k (frame z (sends address nth left w)) m b e = absurd (false≢true e)
 passes-on k (frame z (takes address nth left so-far)) m b e = absurd (false≢true e)
 passes-on k (frame z (askP write good address nth)) m b e = absurd (false≢true e)
+passes-on k (frame z (acknowledge column ids cmd number)) m b e = absurd (false≢true e)
+passes-on k (frame z (askEX cmd concerned)) m b e = absurd (false≢true e)
 
 -- The other phases, by their places: each may speak.
 abbrev speakers : List ℕ
-speakers = 3 ∷ 4 ∷ 5 ∷ 6 ∷ 7 ∷ 8 ∷ 9 ∷ 10 ∷ []
+speakers = 3 ∷ 4 ∷ 5 ∷ 6 ∷ 7 ∷ 8 ∷ 9 ∷ 10 ∷ 11 ∷ 12 ∷ []
 
 pub may-speak : (phase : Phase) (z : ℕ) (b : Body) → OneOf speakers (tagOf the-type phase) → false ≡ saysNothing (stateBy phase z b)
 may-speak Power z b h = absurd (miss speakers 0 tt h)
@@ -51,6 +54,8 @@ may-speak ByteS z b h = refl
 may-speak Sends z b h = refl
 may-speak Takes z b h = refl
 may-speak AskP z b h = refl
+may-speak Acknowledge z b h = refl
+may-speak AskEX z b h = refl
 
 -- What it hears at rest ..
 pub rest-hears : (m : Bool) → cond m (frame 0 protocol.begun) rest ≡ heardBy rest m
@@ -69,7 +74,7 @@ frame-waits z p (some z′) = refl
 
 -- The phases but Rest, by their places.
 abbrev others : List ℕ
-others = 0 ∷ 2 ∷ 3 ∷ 4 ∷ 5 ∷ 6 ∷ 7 ∷ 8 ∷ 9 ∷ 10 ∷ []
+others = 0 ∷ 2 ∷ 3 ∷ 4 ∷ 5 ∷ 6 ∷ 7 ∷ 8 ∷ 9 ∷ 10 ∷ 11 ∷ 12 ∷ []
 
 pub other-hears : (phase : Phase) (z : ℕ) (b : Body) (m : Bool) → OneOf others (tagOf the-type phase)
     → waitedBy (timer z m) (stateBy phase z b) ≡ heardBy (stateBy phase z b) m
@@ -85,6 +90,8 @@ other-hears ByteS z b m h = frame-waits z _ (timer z m)
 other-hears Sends z b m h = frame-waits z _ (timer z m)
 other-hears Takes z b m h = frame-waits z _ (timer z m)
 other-hears AskP z b m h = frame-waits z _ (timer z m)
+other-hears Acknowledge z b m h = frame-waits z _ (timer z m)
+other-hears AskEX z b m h = frame-waits z _ (timer z m)
 
 -- Zeros counted anew stand in the place of those before.
 pub timed-anew : (z z′ : ℕ) (s : Timed protocol.Phase) → timed z (timed z′ s) ≡ timed z s

@@ -10,7 +10,7 @@ use Rattle.protocol.proofs.Memories.{stored-held}
 use Rattle.protocol.proofs.Dress.{stepTo}
 use Rattle.machine.specs.Zeros.{zerosAfter, judgedAt, endedAt}
 use Rattle.machine.proofs.Zeros.{judge-on, judge-out}
-use Rattle.slave.specs.Code.{addressBy, formBy, stateBy, addressOf, turned, SeenIn, Meets, Steps}
+use Rattle.slave.specs.Code.{addressBy, formBy, stateBy, addressOf, turned, ranBy, SeenIn, Meets, Steps}
 use Rattle.slave.specs.declared.Phase.{Phase}
 use Rattle.slave.specs.declared.Phase.the-variants.{Rest}
 use Rattle.slave.specs.declared.Body.{Body}
@@ -45,6 +45,14 @@ module _ {phase : Phase} {zeros : ℕ} {b : Body} {seen : Seen} {phase′ : Phas
       → ((k : Memory) → protocol.speak k p (seen .master) (seen .far) ≡ protocol.turn p′ sent (stored k (addressBy b) byte))
       → Meets phase zeros b seen r
   stores e from to law = record { over = λ k s. rw (e, from, to, law k) }
+
+module _ {phase : Phase} {zeros : ℕ} {b : Body} {seen : Seen} {phase′ : Phase} {b′ : Body} {sent : Bool} {t : Turn} {code : ℕ} where
+  -- A turn that stores nothing, and then a code that is executed in it.
+  pub runs : {p p′ : protocol.Phase} → t ≡ turned phase′ zeros b′ sent (seen .byte)
+      → stateBy phase zeros b ≡ frame zeros p → stateBy phase′ zeros b′ ≡ frame zeros p′
+      → ((k : Memory) → protocol.speak k p (seen .master) (seen .far) ≡ protocol.turn p′ sent (ranBy code k))
+      → Meets phase zeros b seen (record { next = t .next; sent = t .sent; byte = t .byte; ran = code })
+  runs e from to law = record { over = λ k s. rw (e, kept k (addressBy b) seen s, from, to, law k) }
 
 -- The fourteenth zero ends anything.
 ended : (k : Memory) (s : Timed protocol.Phase) (m b : Bool) → protocol.stepped k (endedAt s) m b ≡ stepTo k rest b

@@ -1,5 +1,6 @@
 -- Each promise of this crate has one result to protocol's definitions: two results that meet it are the same state, send the same bit and
--- leave the same registers. What a field holds in a phase that does not use it is left open, and no job shows it. Assumes nothing.
+-- leave the same registers and counts. What a field holds in a phase that does not use it is left open, and no job shows it. Assumes
+-- nothing.
 use mathlib.Core.Path.{_≡_, sym}
 use mathlib.Core.Bool.{Bool}
 use Rattle.protocol.specs.Rest.{powerOn}

@@ -9,6 +9,7 @@ use crate::made::NONE;
 use crate::made::said;
 use machine::ADDRESSES;
 use machine::CHECKS;
+use machine::COMMAND_S;
 use machine::CTS;
 use machine::HEADER;
 use machine::IDS;
@@ -81,7 +82,7 @@ fn locked(column: u64, number: u64, far: bool) -> Lock
     }
 }
 
-// The header's columns behind the locks. "Wrong header check, or a command: all slaves go deaf until rest."
+// The header's columns behind the locks; the last one completes it, and leads where the header calls the slave.
 pub fn head(zeros: u64, body: Body, seen: Seen) -> Turn
     ensures { λ r. ⌜ Meets Phase.Head zeros body seen r ⌝ }
 {
@@ -91,25 +92,29 @@ pub fn head(zeros: u64, body: Body, seen: Seen) -> Turn
     if body.column < HEADER {
         n.column = body.column + 1;
         said(Phase::Head, zeros, n, seen.far, seen.byte)
-    } else if called(word, body.number) {
-        n.address = word / CHECKS % ADDRESSES;
-        said(Phase::AskR, zeros, n, seen.far, seen.byte)
     } else {
-        said(Phase::Deaf, zeros, n, seen.far, seen.byte)
+        n.address = word / CHECKS % ADDRESSES;
+        n.column = COMMAND_S;
+        said(called(word, body.number), zeros, n, seen.far, seen.byte)
     }
 }
 
-// Whether a header with its check calls the slave of this number to a register access.
-fn called(word: u64, number: u64) -> bool
+// Where a header with its check leads the slave of this number. "Wrong header check ..: all slaves go deaf until rest"; a command's S is
+// for all of them, a register access for the slave of its ID.
+fn called(word: u64, number: u64) -> Phase
     ensures { λ r. ⌜ CalledAs word number r ⌝ }
 {
     if checkbits::header_fits(word) {
         if word / CHECKS / CTS % 2 == 1 {
-            number == word / CHECKS / ADDRESSES % IDS
+            if number == word / CHECKS / ADDRESSES % IDS {
+                Phase::AskR
+            } else {
+                Phase::Deaf
+            }
         } else {
-            false
+            Phase::Acknowledge
         }
     } else {
-        false
+        Phase::Deaf
     }
 }

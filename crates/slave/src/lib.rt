@@ -1,5 +1,6 @@
-// One slave of the chain: a column in, its next state, the bit that it sends and the byte at its address out (01, Columns).
+// One slave of the chain: a column in; its next state, the bit that it sends, the byte at its address and the code that it executes out.
 mod access;
+mod command;
 mod data;
 mod header;
 mod made;
@@ -13,6 +14,8 @@ ghost use Rattle.protocol.specs.Slave.{begun};
 ghost use Rattle.slave.specs.Code.{stateOf, stateBy, addressOf, saysNothing, heardBy, waitedBy, Meets, Steps};
 use access::ask_r;
 use access::ask_w;
+use command::acknowledge;
+use command::ask_ex;
 use data::ask_p;
 use data::byte_s;
 use data::sends;
@@ -37,10 +40,12 @@ pub enum Phase {
     Sends,
     Takes,
     AskP,
+    Acknowledge,
+    AskEX,
 }
 
 // The numbers of all phases side by side; each phase looks at its own. In AskW `write` holds R, in ByteS `word` counts the S that were not
-// confirmed, in AskP `address` is the next one.
+// confirmed, in AskP `address` is the next one; behind a command's header `word` is the header's, and `column` counts from its S.
 pub struct Body {
     pub column: u64,
     pub word: u64,
@@ -67,11 +72,13 @@ pub struct Seen {
     pub wait: u8,
 }
 
-// What a column makes of it; `byte` stands at its address from now on.
+// What a column makes of it; `byte` stands at its address from now on. `ran` is the code of the command that is executed for it in this
+// column, and the number of codes, 4, where none is.
 pub struct Turn {
     pub next: Slave,
     pub sent: bool,
     pub byte: u8,
+    pub ran: usize,
 }
 
 impl Slave {
@@ -158,6 +165,8 @@ fn meant(phase: Phase, zeros: u64, body: Body, seen: Seen) -> Turn
         Phase::Sends => sends(zeros, body, seen),
         Phase::Takes => takes(zeros, body, seen),
         Phase::AskP => ask_p(zeros, body, seen),
+        Phase::Acknowledge => acknowledge(zeros, body, seen),
+        Phase::AskEX => ask_ex(zeros, body, seen),
     }
 }
 

@@ -12,7 +12,10 @@ pub const NONE: u64 = machine::IDS;
 // In ByteS the S of this byte has not come yet.
 pub const UNASKED: u64 = 0;
 
-// A next state, the bit that is sent, and the byte that stands at the address from now on.
+// The codes are below COMMANDS, and this stands for a column in which no command is executed.
+pub const NOT_RUN: usize = machine::COMMANDS as usize;
+
+// A next state, the bit that is sent, and the byte that stands at the address from now on; no command is executed.
 pub fn said(phase: Phase, zeros: u64, body: Body, sent: bool, byte: u8) -> Turn
     ensures { λ r. ⌜ r ≡ turned phase zeros body sent byte ⌝ }
 {
@@ -25,5 +28,6 @@ pub fn said(phase: Phase, zeros: u64, body: Body, sent: bool, byte: u8) -> Turn
         next: next,
         sent: sent,
         byte: byte,
+        ran: NOT_RUN,
     }
 }

@@ -73,7 +73,8 @@ fn told(cdm: &[u8], registers: &mut [u8], cds: &mut [u8]) {
     let banks = [1u8; 1];
     let rights = [3u8; 128];
     let waits = [0u8; 1];
-    ended(run::run(1, &banks, &rights, &waits, registers, cdm, cds));
+    let mut counts = [0u32; 4];
+    ended(run::run(1, &banks, &rights, &waits, registers, &mut counts, cdm, cds));
     line(b"cdm ", cdm);
     line(b"cds ", cds);
 }

@@ -46,10 +46,20 @@ returns-12 c = rw (c .before .enum-told12 .given .1) (c .writes .ensures _)
 returns-13 : tie.Need-returns-13
 returns-13 c = rw (c .before .enum-told13 .given .1) (c .ask-p .ensures _)
 
+returns-14 : tie.Need-returns-14
+returns-14 c = rw (c .before .enum-told14 .given .1) (c .acknowledge .ensures _)
+
+returns-15 : tie.Need-returns-15
+returns-15 c = rw (c .before .enum-told15 .given .1) (c .ask-ex .ensures _)
+
 pub goes-on-spec : {M : Type 1} → statement M
 goes-on-spec =
     tie.close
     (tie.spec
+    (λ c. search needs)
+    (λ c κs. search needs)
+    (λ c. search needs)
+    (λ c κs. search needs)
     (λ c. search needs)
     (λ c κs. search needs)
     (λ c. search needs)
@@ -88,4 +98,6 @@ goes-on-spec =
     returns-10
     returns-11
     returns-12
-    returns-13)
+    returns-13
+    returns-14
+    returns-15)

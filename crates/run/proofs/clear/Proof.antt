@@ -1,36 +1,33 @@
 -- `run::clear` meets its contract. The loop's invariant: what was passed is 0. Assumes nothing.
-use mathlib.Core.Path.{_≡_, sym, ap, _∙_}
-use Prim.Native.Nat.{ℕ, _-_, _≤_}
+use mathlib.Core.Path.{refl}
+use Prim.Native.Nat.{_-_}
 use native.Mathlib.Omega.{arith}
 use borrow.Author.Needs.{needs}
-use lib.ListN.{length, length-set, take, replicate}
-use lib.Seq.{take-all}
-use Rattle.run.proofs.Slaves.{cleared-next}
+use lib.ListN.{length, length-set}
+use Rattle.run.proofs.Slaves.{Cleared, cleared-next, all-cleared}
 use Rattle.run.proofs.clear.Statement.{statement}
 use Rattle.run.proofs.clear.Tie as tie
 
 abbrev Inv-loop : tie.InvT-loop
-Inv-loop cds₀ i₀ cds i = (i ≤ length cds) × (length cds ≡ length cds₀) × (take i cds ≡ replicate i 0)
+Inv-loop cds₀ i₀ cds i = Cleared cds₀ cds i
 
 abbrev μ-loop : tie.MeasureT-loop
 μ-loop cds₀ i₀ cds i = length cds - i
+
+loop-holds : tie.Need-loop-holds Inv-loop μ-loop
+loop-holds c = record { within = omega arith; same = refl; zeros = refl }
 
 loop-less : tie.Need-loop-less Inv-loop μ-loop
 loop-less c = rw length-set (search needs)
 
 loop-again : tie.Need-loop-again Inv-loop μ-loop
-loop-again c =
-    let l = c .before .loop in
-    (rw length-set (search needs), rw length-set (l .inv .1), cleared-next (l .cds) (l .i) (c .loop-test .taken) (l .inv .2))
+loop-again c = cleared-next _ _ _ (c .before .loop .inv) (c .loop-test .taken)
 
 same-length : tie.Need-same-length Inv-loop μ-loop
-same-length c = c .before .loop .inv .1
+same-length c = c .before .loop .inv .same
 
 returns : tie.Need-returns Inv-loop μ-loop
-returns c =
-    let l = c .before .loop in
-    let all : l .i ≡ length (l .cds) = omega (arith, l .inv .0, c .loop-test .left) in
-    sym (take-all (l .i) (l .cds) (c .loop-test .left)) ∙ l .inv .2 ∙ ap (λ (n : ℕ). replicate n 0) (all ∙ l .inv .1)
+returns c = all-cleared _ _ _ (c .before .loop .inv) (c .loop-test .left)
 
 pub clear-spec : {M : Type 1} → statement M
 clear-spec =
@@ -38,7 +35,7 @@ clear-spec =
     (tie.spec
     Inv-loop
     μ-loop
-    (λ c. search needs)
+    loop-holds
     (λ c. search needs)
     (λ c. search needs)
     loop-less

@@ -21,13 +21,29 @@ returns-3 c = rw (← c .before .before .none-above .ensures, c .before .if3 .ta
 returns-4 : tie.Need-returns-4
 unfolding sizeRefusals first
 returns-4 c =
-    rw (← c .before .before .before .none-above .ensures, c .before .before .if3 .taken, c .wrong-row .ensures) (search cases)
+    let rights = c .before .before in
+    rw (← rights .before .none-above .ensures, rights .if3 .taken) (search cases)
 
 returns-5 : tie.Need-returns-5
 unfolding sizeRefusals first
-returns-5 c = rw (← c .before .none-above .ensures, c .if3 .left) (search cases)
+returns-5 c =
+    let rights = c .before .before .before in
+    rw (← rights .before .none-above .ensures, rights .if3 .taken, c .wrong-row .ensures) (search cases)
+
+returns-6 : tie.Need-returns-6
+unfolding sizeRefusals first
+returns-6 c = rw (← c .before .none-above .ensures, c .if3 .left) (search cases)
 
 pub size-refusal-spec : {M : Type 1} → statement M
 size-refusal-spec =
     tie.close
-    (tie.spec (λ c κs. search needs) (λ c κs. search needs) returns returns-2 returns-3 returns-4 returns-5)
+    (tie.spec
+    (λ c κs. search needs)
+    (λ c. search needs)
+    (λ c κs. search needs)
+    returns
+    returns-2
+    returns-3
+    returns-4
+    returns-5
+    returns-6)
