@@ -4,7 +4,7 @@
  * BISS_REFUSED set, a refusal, and then no lent byte has changed. biss_is_refused, biss_refusal, biss_line, biss_byte and biss_job below
  * read an answer. Of its refusals the first that holds is told, in the order that the call names:
  *
- *    1  more than 16 slaves                           12  list length no multiple of 9, or a kind outside 1 to 16
+ *    1  more than 16 slaves                           12  list length no multiple of 9, or a kind outside 1 to 20
  *    2  registers not 64 x (banks + 1) bytes a slave  13  a wrong byte in the header line
  *    3  rights not 64 x (banks + 1) bytes a slave     14  digit not 0 or 1
  *    4  a right above 3                               15  tab missing
@@ -14,6 +14,7 @@
  *    8  opening column greater than the length        19  banks not one number of 1 to 8 per slave
  *    9  the result needs more room than was lent      20  a stretch outside the rows
  *   10  id over 7, address over 127, CMD over 3, count 0 or over 64, or address + count over 128
+ *   21  counts not four per slave
  *   32  counts not one per job
  *
  * 13 to 17 say what is wrong with a text at its first bad byte, 14 to 16 below the header line: they tell the line, counted from 1, and
@@ -22,7 +23,7 @@
  *
  * 20, and of a table of jobs 5, 7 and 8 too, tell the job that has it, counted from 0, as it stands in the table: jobs[biss_job(answer)].
  *
- * A buffer is a pointer and its length in bytes; a table of jobs and its counts are told by how many there are. It has to be as long as is
+ * A buffer is a pointer and its length in bytes; a table of jobs and counts are told by how many there are. It has to be as long as is
  * said, and a buffer that a call writes must not overlap another of the same call: this is all that a caller has to see to, for C cannot
  * check it. A pointer of length 0 is not followed.
  * A row is one byte a column, 0 or 1; registers and rights are 64 x (banks + 1) bytes a slave, banks and waits one, the far slave first;
@@ -37,10 +38,17 @@
  * and any other number shuts 0 to 63 for the whole run.
  *
  * A slave's waiting number, 0 to 255, says how often it answers 0 to S = 1 before it confirms S with 1, while the master repeats S: at
- * every byte of a read, and at every byte of a write but the first. A master that sends 0 instead gives up, and the access has ended. */
+ * every byte of a read, and at every byte of a write but the first. A master that sends 0 instead gives up, and the access has ended.
+ *
+ * A command is its header, with IDS and CMD, then S = 1 and at last EX. IDS names IDs: its highest bit, 0x80, is ID 0 and its lowest ID 7;
+ * 0 is a broadcast. The eight columns from S on are the acknowledgements of ID 0 to 7, and EX stands in the ninth: a slave that is named
+ * answers 1 in its own column, and what the master sends between S and EX is not judged. A broadcast is not acknowledged, and its EX stands
+ * right behind S. With EX = 1 every named slave, of a broadcast every slave, numbered or not, executes the command; with EX = 0 nobody
+ * does, and with S = 0 the command has ended. An executed command is counted, and changes nothing else in the chain. */
 #ifndef BISS_H
 #define BISS_H
 
+#include <stdbool.h>
 #include <stddef.h>
 #include <stdint.h>
 
@@ -86,6 +94,20 @@ static inline size_t biss_start(const uint8_t *entry) { return (size_t)entry[BIS
  * it. Elsewhere the byte is 0, and `-` in a text. A bank register that holds 255 looks the same as none written, and is no bank either. */
 enum { BISS_BANK_REGISTER = 64, BISS_NO_BANK_YET = 255 };
 
+/* What a list has of a command. The ID byte of these entries is CMD, and they name neither address nor bank. Kind 4, `command`, is its
+ * header; its value is IDS. Then, if S is 1:
+ *   17  executed  EX = 1 of a broadcast, or of a command that was acknowledged by every named ID that is locked and by nobody else. The
+ *                 value is IDS; an ID that it names and that is not locked was not there
+ *   18  withheld  EX = 0: nobody executes the command, whatever was answered. The value is IDS
+ *   19  ackodd    in the column of the last acknowledgement: a named ID that is locked stayed silent, or one spoke that is not named or not
+ *                 locked. The value is the eight answers, that of ID 0 highest; EX is still to come
+ *   20  forced    EX = 1 behind an `ackodd`: the execution was sent, but who executed it the answers do not say. The value is IDS
+ * Of rows from power-on that a chain answered itself, there is never a 19 or 20, and the entries 17, counted once for every slave that they
+ * are for, are the counts that biss_run leaves. */
+
+/* How many counts of executions a slave has: one for each CMD, 0 to 3. */
+enum { BISS_CMDS = 4 };
+
 /* The master zeros that stand before every start bit. A reader that opens at biss_start(entry) - BISS_REST lists that entry again, and
  * just what the first list has from the entry's frame on: byte for byte, but for the bank. The bank is the same too once the bank register
  * of that ID has been written in the new list; before it is BISS_NO_BANK_YET. */
@@ -104,15 +126,20 @@ uint64_t biss_build_write(uint8_t id, uint8_t address, const uint8_t *bytes, siz
                           size_t out_length);
 
 /* Builds the master row of the command `cmd` to the slaves whose bits are set in `ids`: the highest bit, 0x80, is the slave with ID 0,
- * the lowest the one with ID 7. With `ids` 0 it is a broadcast, to every slave. Refusals 10, 9. */
-uint64_t biss_build_command(uint8_t ids, uint8_t cmd, uint8_t *out, size_t out_length);
+ * the lowest the one with ID 7. With `ids` 0 it is a broadcast, to every slave. The row goes on to EX, which is 1 if `execute` and else 0:
+ * 39 columns, of a broadcast 32. Its first BISS_COMMAND_HEADER columns are the header alone, for a master that stops there. Refusals 10,
+ * 9. */
+uint64_t biss_build_command(uint8_t ids, uint8_t cmd, bool execute, uint8_t *out, size_t out_length);
+enum { BISS_COMMAND_HEADER = 30 };
 
 /* Runs a chain of slaves from power-on over the master row `cdm`: `banks` says how many banks each has, `waits` its waiting number. The
- * answers go into `cds`, which is as long as `cdm`, and the registers are left as the chain leaves them. Refusals 1, 19, 2, 3, 4, 18, 5,
- * 6, 7. */
+ * answers go into `cds`, which is as long as `cdm`, and the registers are left as the chain leaves them. `counts` becomes how often each
+ * slave executed each command in this run: BISS_CMDS a slave, CMD 0 to 3, the far slave first; what stood there before does not count.
+ * `count_places` says how many counts there is room for, and must be BISS_CMDS x slaves, else it is refusal 21. Refusals 1, 19, 2, 3, 4,
+ * 18, 21, 5, 6, 7; none of them changes a byte or a count. */
 uint64_t biss_run(size_t slaves, const uint8_t *banks, size_t banks_length, const uint8_t *rights, size_t rights_length,
-                  const uint8_t *waits, size_t waits_length, uint8_t *registers, size_t registers_length, const uint8_t *cdm,
-                  size_t cdm_length, uint8_t *cds, size_t cds_length);
+                  const uint8_t *waits, size_t waits_length, uint8_t *registers, size_t registers_length, uint32_t *counts,
+                  size_t count_places, const uint8_t *cdm, size_t cdm_length, uint8_t *cds, size_t cds_length);
 
 /* Lists the entries that two recorded rows show to a reader that opens at the column `opening`, into the first bytes of `out`:
  * BISS_ENTRY_BYTES an entry. The reader knows no waiting numbers: it waits while the master repeats S, and lists a `mute` (kind 9) where

@@ -57,7 +57,7 @@ fn words(number: u8) -> &'static str {
         8 => "opening column greater than the length",
         9 => "the result needs more room than was lent",
         10 => "id over 7, address over 127, CMD over 3, count 0 or over 64, or address + count over 128",
-        12 => "list length no multiple of 9, or a kind outside 1 to 16",
+        12 => "list length no multiple of 9, or a kind outside 1 to 20",
         13 => "a wrong byte in the header line",
         14 => "digit not 0 or 1",
         15 => "tab missing",
@@ -66,6 +66,7 @@ fn words(number: u8) -> &'static str {
         18 => "waits not one byte per slave",
         19 => "banks not one number of 1 to 8 per slave",
         20 => "a stretch outside the rows",
+        21 => "counts not four per slave",
         32 => "counts not one per job",
         _ => "a number that the table does not have",
     }
@@ -85,13 +86,20 @@ pub const LIST_LINE_BYTES: usize = 36;
 /// its bank.
 pub const REST: usize = 14;
 
+/// How many counts of executions a slave has: one for each CMD, 0 to 3.
+pub const CMDS: usize = 4;
+
+/// The columns of a built command that are its header alone, the first ones.
+pub const COMMAND_HEADER: usize = 30;
+
 /// The address of the bank register; the addresses below it show the bank that it names.
 pub const BANK_REGISTER: u8 = 64;
 
 /// The bank of an entry of an ID whose bank register was not yet written in the list.
 pub const NO_BANK_YET: u8 = 255;
 
-/// An entry of a list; `start` is the column of the start bit of its frame, `bank` that of an address below the bank register, else 0.
+/// An entry of a list; `start` is the column of the start bit of its frame, `bank` that of an address below the bank register, else 0. Of a
+/// command (kinds 4 and 17 to 20) `id` is CMD.
 #[derive(Clone, Copy, PartialEq, Eq, Debug)]
 pub struct Entry {
     pub kind: u8,
@@ -161,7 +169,13 @@ mod calls {
             out: *mut u8,
             out_length: usize,
         ) -> u64;
-        pub fn biss_build_command(ids: u8, cmd: u8, out: *mut u8, out_length: usize) -> u64;
+        pub fn biss_build_command(
+            ids: u8,
+            cmd: u8,
+            execute: bool,
+            out: *mut u8,
+            out_length: usize,
+        ) -> u64;
         pub fn biss_run(
             slaves: usize,
             banks: *const u8,
@@ -172,6 +186,8 @@ mod calls {
             waits_length: usize,
             registers: *mut u8,
             registers_length: usize,
+            counts: *mut u32,
+            count_places: usize,
             cdm: *const u8,
             cdm_length: usize,
             cds: *mut u8,
@@ -262,16 +278,20 @@ pub fn build_write(id: u8, address: u8, bytes: &[u8], wait: u8, out: &mut [u8]) 
     })
 }
 
-pub fn build_command(ids: u8, cmd: u8, out: &mut [u8]) -> Answer {
-    answer(unsafe { calls::biss_build_command(ids, cmd, out.as_mut_ptr(), out.len()) })
+/// The row goes on to EX, which is 1 if `execute`; its first `COMMAND_HEADER` columns are the header alone.
+pub fn build_command(ids: u8, cmd: u8, execute: bool, out: &mut [u8]) -> Answer {
+    answer(unsafe { calls::biss_build_command(ids, cmd, execute, out.as_mut_ptr(), out.len()) })
 }
 
+/// `counts` becomes how often each slave executed each command in this run: `CMDS` a slave, the far slave first.
+#[allow(clippy::too_many_arguments)]
 pub fn run(
     slaves: usize,
     banks: &[u8],
     rights: &[u8],
     waits: &[u8],
     registers: &mut [u8],
+    counts: &mut [u32],
     cdm: &[u8],
     cds: &mut [u8],
 ) -> Answer {
@@ -286,6 +306,8 @@ pub fn run(
             waits.len(),
             registers.as_mut_ptr(),
             registers.len(),
+            counts.as_mut_ptr(),
+            counts.len(),
             cdm.as_ptr(),
             cdm.len(),
             cds.as_mut_ptr(),

@@ -61,7 +61,7 @@ pub fn bench<J: Job>() {
         let [model, library] = least(&timed);
         let (what, row, columns) = (&timed.what, timed.row, timed.columns / timed.cases.len());
         let ratio = library / model;
-        println!("{what:<16}{columns:>8}  {row:<6}{model:>10.2}{library:>10.2}{ratio:>12.2}");
+        println!("{what:<16}{columns:>8}  {row:<8}{model:>10.2}{library:>10.2}{ratio:>12.2}");
     }
 }
 
@@ -74,13 +74,14 @@ pub fn bench_all() {
     );
     println!("banks: such rows for slaves with {} banks; half the frames choose one", rows::BANKS);
     println!("waits: such rows, or built ones, for a slave that waits {}", rows::WAIT);
+    println!("commands: such rows; half the frames are commands that are executed");
     println!(
         "read_all: {} stretches of 100 to 500 columns of varied rows in one call, and against as many",
         rows::STRETCHES
     );
     println!("  calls of read; ample: room for every column; exact: room for the lists, in each call too");
     println!(
-        "{:<16}{:>8}  {:<6}{:>10}{:>10}{:>12}{:>12}",
+        "{:<16}{:>8}  {:<8}{:>10}{:>10}{:>12}{:>12}",
         "job", "columns", "row", "model", "library", "lib / model", "/ singly"
     );
     JOBS.iter().for_each(|job| (job.bench)());

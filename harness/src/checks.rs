@@ -1,11 +1,13 @@
 //! What must hold of the model by itself.
 
 use crate::compare::Left;
-use crate::conditions::{has_its_bank, has_its_start, is_given_up};
+use crate::conditions::{commanded, has_its_bank, has_its_start, is_given_up, Commanded};
 use crate::generate::Random;
 use crate::job::{holding, Job};
 use model::account::rest_after;
-use model::entry::{Entry, Kind, ENTRY_BYTES};
+use model::entry::{
+    column_in, Entry, Kind, ADDRESS, BANK, COLUMN, ENTRY_BYTES, ID, KIND, START, VALUE,
+};
 use model::frame::BANK_REGISTER;
 use model::list::list;
 
@@ -44,6 +46,24 @@ pub fn gives_up(cdm: &[u8], cds: &[u8], list: &[u8]) -> Result<(), String> {
         None => Ok(()),
         Some(entry) => Err(format!("the master gives up at {entry:?}")),
     }
+}
+
+/// Behind every `command` of a list's bytes stands what the bits of its frame say, and
+/// nowhere else an entry of such a kind.
+pub fn commands(cdm: &[u8], cds: &[u8], list: &[u8]) -> Result<(), String> {
+    let mut wanted: Vec<Commanded> = Vec::new();
+    for entry in list.chunks(ENTRY_BYTES).filter(|entry| matches!(entry[KIND], 4 | 17..=20)) {
+        let told = (entry[KIND], column_in(&entry[COLUMN]), entry[ID], entry[VALUE]);
+        must(entry[ADDRESS] == 0 && entry[BANK] == 0, "a command names no address")?;
+        if entry[KIND] == 4 {
+            must(wanted.is_empty(), &format!("{wanted:?} before {entry:?}"))?;
+            wanted = commanded(cdm, cds, column_in(&entry[START]));
+        } else {
+            let next = if wanted.is_empty() { None } else { Some(wanted.remove(0)) };
+            must(next == Some(told), &format!("{next:?}, not {entry:?}"))?;
+        }
+    }
+    must(wanted.is_empty(), &format!("{wanted:?} at the end"))
 }
 
 /// Every entry of a list's bytes names the bank that those before it tell.

@@ -1,5 +1,5 @@
 //! Conditions of refusals that several jobs have, those of a text, those of a job of a
-//! table, those of an entry's start and bank and those of a `mute`.
+//! table, those of an entry's start and bank, those of a `mute` and what a command lists.
 
 use model::table::{Rows, Stretch};
 use model::Fault;
@@ -94,4 +94,35 @@ pub fn has_its_bank(before: &[u8], entry: &[u8]) -> bool {
 pub fn is_given_up(cdm: &[u8], cds: &[u8], entry: &[u8]) -> bool {
     let column = usize::from(entry[1]) << 8 | usize::from(entry[2]);
     entry[0] != 9 || (cdm[column] == 0 && cdm[column - 1] == 1 && cds[column - 1] == 0)
+}
+
+/// What is listed of a command behind its header: kind, column, CMD and value.
+pub type Commanded = (u8, usize, u8, u8);
+
+/// All that is listed behind a command's header in the frame whose S stands in this column,
+/// judged from the bits of the two rows there: an answer fits where it is 1 exactly if
+/// both the bit of IDS and the lock are.
+pub fn commanded(cdm: &[u8], cds: &[u8], start: usize) -> Vec<Commanded> {
+    let bit = |row: &[u8], after: usize| row.get(start + after).copied();
+    let byte = |row: &[u8], after: usize| {
+        let bits = row.iter().skip(start + after).take(8);
+        bits.fold(0, |byte: u8, bit| byte << 1 | bit)
+    };
+    let (ids, cmd) = (byte(cdm, 2), 2 * cdm[start + 10] + cdm[start + 11]);
+    let fits =
+        ids == 0 || (0..8).all(|id| bit(cds, 16 + id) == bit(cdm, 2 + id).min(bit(cds, 1 + id)));
+    let ex = if ids == 0 { 17 } else { 24 };
+    let mut all = Vec::new();
+    if bit(cdm, 16) != Some(1) {
+        return all;
+    }
+    if bit(cdm, 23).is_some() && !fits {
+        all.push((19, start + 23, cmd, byte(cds, 16)));
+    }
+    match bit(cdm, ex) {
+        Some(0) => all.push((18, start + ex, cmd, ids)),
+        Some(_) => all.push((if fits { 17 } else { 20 }, start + ex, cmd, ids)),
+        None => {}
+    }
+    all
 }

@@ -1,12 +1,14 @@
 //! How often each entry kind, each opening again at a frame, each refusal, each fault of
-//! a text, each phase, each wait, each bank, each stretch of a table and each way to make
-//! a case came up.
+//! a text, each phase, each wait, each bank, each command, each stretch of a table and each
+//! way to make a case came up.
 
 mod banks;
+mod commands;
 pub mod stretches;
 mod table;
 pub mod told_jobs;
 mod waits;
+mod ways;
 
 use crate::case::Listed;
 use crate::compare::Left;
@@ -16,6 +18,7 @@ use crate::generate::texts::{each, Faults, IN_COLUMN, IN_HEADER};
 use crate::job::{holding, Job};
 use crate::jobs::JOBS;
 use banks::{Late, Named, Situation};
+use commands::Commanded;
 use model::entry::{ADDRESS, ENTRY_BYTES, FORMS, KIND, VALUE};
 use model::phase::{Met, Phase, PHASES};
 use model::rows::MOST_COLUMNS;
@@ -29,7 +32,7 @@ use told_jobs::Told;
 
 const LEAST: u64 = 100;
 /// These never occur in the account, so not in honest rows; "`mute` may now stand" there.
-const NEVER_HONEST: [u8; 4] = [2, 8, 12, 14];
+const NEVER_HONEST: [u8; 6] = [2, 8, 12, 14, 19, 20];
 const LOCKS: RangeInclusive<u8> = 0..=9;
 
 /// Where in a text a fault stands.
@@ -96,6 +99,8 @@ pub enum Count {
     PassedOver(u8),
     /// Banks of lists that were opened late.
     Late(Late),
+    /// What commands, and entries of them, have.
+    Command(Commanded),
     /// What tables that were read, and their jobs, have.
     Table(Tabled),
     /// What tables that were refused have.
@@ -150,6 +155,7 @@ impl fmt::Display for Count {
             Count::Named(kind, named) => write!(to, "bank of {} {named:?}", kind_name(*kind)),
             Count::PassedOver(kind) => write!(to, "passed over {}", kind_name(*kind)),
             Count::Late(bank) => write!(to, "late bank {bank:?}"),
+            Count::Command(met) => write!(to, "command {met}"),
             Count::Table(met) => write!(to, "table {met:?}"),
             Count::Told(told) => write!(to, "table refused {told}"),
             Count::Fault(part, number, byte) => write!(to, "{part:?} {number} at byte {byte}"),
@@ -278,6 +284,7 @@ fn expected() -> Vec<Count> {
     all.extend(PHASES.map(Count::ReaderAt));
     all.extend(waits::expected());
     all.extend(banks::expected());
+    all.extend(commands::expected());
     all.extend(stretches::expected());
     all.extend(told_jobs::expected());
     all.extend(PARTS.into_iter().flat_map(expected_of_texts));

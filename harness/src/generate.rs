@@ -1,6 +1,7 @@
 //! What cases are made of: the same seed always gives the same.
 
 pub mod chains;
+mod commands;
 pub mod frames;
 pub mod lists;
 pub mod provoked;

@@ -63,10 +63,11 @@ table! {
         => build_read::BuildRead, 3;
     build_write(id: u8, address: u8, bytes: &[u8], wait: u8, out: &mut [u8])
         => build_write::BuildWrite, 3;
-    build_command(ids: u8, cmd: u8, out: &mut [u8]) => build_command::BuildCommand, 2;
+    build_command(ids: u8, cmd: u8, execute: bool, out: &mut [u8])
+        => build_command::BuildCommand, 2;
     run(
         slaves: usize, banks: &[u8], rights: &[u8], waits: &[u8], registers: &mut [u8],
-        cdm: &[u8], cds: &mut [u8]
+        counts: &mut [u32], cdm: &[u8], cds: &mut [u8]
     ) => run::Run, 31;
     read(cdm: &[u8], cds: &[u8], opening: usize, out: &mut [u8]) => read::Read, 31;
     read_all(rows: Rows, jobs: &[Stretch], out: &mut [u8], counts: &mut [usize])

@@ -8,9 +8,11 @@ use std::ops::{Deref, DerefMut};
 const GUARD: usize = 64;
 const GUARD_BYTE: u8 = 0xA5;
 
-/// The bytes of a number and of a job, where a buffer is lent for such.
+/// The bytes of a number, of a job and of a count of executions, where a buffer is lent
+/// for such.
 pub const NUMBER: usize = size_of::<usize>();
 pub const JOB: usize = 3 * NUMBER;
+pub const EXECUTED: usize = size_of::<u32>();
 
 /// A lent buffer; it stands for the bytes between its guards.
 #[derive(Clone)]
@@ -47,6 +49,20 @@ impl Lent {
         let answer = call(&mut numbers[start..end]);
         self.0 = numbers.iter().flat_map(|number| number.to_ne_bytes()).collect();
         answer
+    }
+
+    /// The counts of executions that it holds.
+    pub fn executed(&self) -> Vec<u32> {
+        let count = |bytes: &[u8]| u32::from_ne_bytes(bytes.try_into().expect("as many bytes"));
+        self.chunks_exact(EXECUTED).map(count).collect()
+    }
+
+    /// Its bytes as counts of executions, in place: nothing is copied while a clock runs.
+    pub fn executed_mut(&mut self) -> &mut [u32] {
+        // Sound, as any four bytes are a count.
+        let (before, counts, behind) = unsafe { self.align_to_mut::<u32>() };
+        assert!(before.is_empty() && behind.is_empty(), "lent buffers begin at a count's place");
+        counts
     }
 
     /// Takes out bytes `from` to `to` - 1, as far as there are any.

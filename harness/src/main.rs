@@ -37,8 +37,10 @@ harness watch FIRST N     N cases on one thread, each seed printed before it
                           runs: the last one printed is the one that crashed
 harness bench             times model against library
 harness programs [write]  the files of the indexing program's crates, what the
-                          card prints and the recordings among the examples held
-                          to the model, or written; docs/CHECK.md held to both
+                          card and, of commands, the program `recordings` print,
+                          the recordings among the examples and what the preset
+                          prints held to the model, or written; docs/CHECK.md
+                          held to both
 harness index PROGRAM N   the linked program on the named inputs and on the texts
                           of N seeds
 harness selftest          the bench card on the model, and the wrapper's words
@@ -47,8 +49,8 @@ harness --help            this text
 
 Exit status 0 if model and library never differ, the model keeps its own
 promises and every count of entries, frames opened again, refusals, faults,
-phases, waits, banks, stretches and ways to make a case is at least 100 (the last
-not asked of soak under 600, seed and watch).";
+phases, waits, banks, commands, stretches and ways to make a case is at least 100
+(the last not asked of soak under 600, seed and watch).";
 
 fn selftest() -> bool {
     let (tried, failed) = selftest::selftest();

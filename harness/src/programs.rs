@@ -1,9 +1,11 @@
 //! The indexing program: the files of the crates and of the examples that hold some of
 //! its inputs, and the linked program on all of them and on texts from seeds. And what
-//! the program `card` prints.
+//! the programs `card` and, of commands, `recordings` print.
 
 mod card;
 mod inputs;
+mod preset;
+mod recordings;
 
 use crate::generate::Random;
 use inputs::{calibrations, faulty_inputs, held, named, slow_memory, Input};
@@ -66,14 +68,17 @@ impl Input {
     }
 }
 
-/// The files of the indexing program's crates, what the card prints, and the recordings
-/// among the examples.
+/// The files of the indexing program's crates, what the card and the commands among the
+/// recordings print, the recordings among the examples and what the preset prints.
 fn files(root: &Path) -> Vec<(PathBuf, Vec<u8>)> {
     let card = (root.join("crates/card/stdout"), card::printed());
     let slow_memory = (root.join("examples/slow_memory.rows"), slow_memory().stdin);
     let [calibration, _] = calibrations();
     let calibration = (root.join("examples/calibration.rows"), calibration.stdin);
-    let others = [card, slow_memory, calibration];
+    let preset = (root.join("examples/preset.rows"), preset::recording().stdin);
+    let example = (root.join("examples/preset.txt"), preset::printed());
+    let recordings = recordings::printed(root);
+    let others = [card, slow_memory, calibration, preset, example, recordings];
     held().iter().flat_map(|input| input.files(root)).chain(others).collect()
 }
 

@@ -5,7 +5,7 @@
 
 use super::check::{check_bits, BYTE_BITS, HEADER_BITS};
 use super::entry::{names_bank, Entry, Kind, NO_BANK_YET};
-use super::frame::{BANK_BYTES, BANK_REGISTER, FIRST_LOCK};
+use super::frame::{BANK_BYTES, BANK_REGISTER, CODES, FIRST_LOCK};
 use super::rows::ZEROS_TO_REST;
 use super::slave::allows;
 
@@ -14,6 +14,8 @@ pub struct Account<'a> {
     rights: &'a [u8],
     waits: &'a [u8],
     pub registers: Vec<u8>,
+    /// How often each slave executed each code, far slave first.
+    pub executed: Vec<u32>,
     pub entries: Vec<Entry>,
 }
 
@@ -26,7 +28,8 @@ pub fn account<'a>(
     cdm: &[u8],
 ) -> Account<'a> {
     let (registers, entries) = (registers.to_vec(), Vec::new());
-    let mut account = Account { banks, rights, waits, registers, entries };
+    let executed = vec![0; CODES * banks.len()];
+    let mut account = Account { banks, rights, waits, registers, executed, entries };
     let mut rest = rest_after(cdm, 0);
     while let Some(start) = rest.and_then(|rest| first_one(cdm, rest)) {
         rest = rest_after(cdm, start);
@@ -82,11 +85,29 @@ impl Account<'_> {
         if number(&frame[12..16]) != u16::from(check_bits(word, HEADER_BITS)) {
             self.note(start, 15, Entry::of(Kind::BadHead));
         } else if frame[1] == 0 {
-            let cmd = (word & 3) as u8;
-            let ids = (word >> 2) as u8;
-            self.note(start, 15, Entry::of(Kind::Command).place(cmd, 0).value(ids));
+            self.command(start, frame);
         } else if frame.len() > 17 {
             self.register_access(start, frame);
+        }
+    }
+
+    /// A command is its header, its S, of an addressed one seven columns that are the
+    /// slaves' alone, and EX.
+    fn command(&mut self, start: usize, frame: &[u8]) {
+        let (ids, cmd) = (&frame[2..10], number(&frame[10..12]) as u8);
+        let entry = |kind| Entry::of(kind).place(cmd, 0).value(number(ids) as u8);
+        self.note(start, 15, entry(Kind::Command));
+        let is_addressed = ids.contains(&1);
+        let ex = if is_addressed { 24 } else { 17 };
+        if frame.len() <= ex || frame[16] == 0 {
+            return;
+        }
+        self.note(start, ex, entry([Kind::Withheld, Kind::Executed][usize::from(frame[ex])]));
+        // "IDS starting with ID 0", and the slaves in the order of their IDs.
+        for (place, counts) in self.executed.chunks_exact_mut(CODES).enumerate() {
+            if !is_addressed || ids.get(place) == Some(&1) {
+                counts[usize::from(cmd)] += u32::from(frame[ex]);
+            }
         }
     }
 

@@ -95,14 +95,19 @@ pub fn build_write(id: u8, address: u8, bytes: &[u8], wait: u8, out: &mut [u8]) 
     Made(pen.column)
 }
 
-pub fn build_command(ids: u8, cmd: u8, out: &mut [u8]) -> Outcome {
+/// Behind the header S; of an addressed command the columns of IDA1 to IDA7, 0; and EX.
+pub fn build_command(ids: u8, cmd: u8, execute: bool, out: &mut [u8]) -> Outcome {
     if cmd > 3 {
         return Refused(10);
     }
-    if out.len() < 30 {
+    let answers = if ids == 0 { 0 } else { 7 };
+    if out.len() < 30 + 1 + answers + 1 {
         return Refused(9);
     }
     let mut pen = Pen { row: out, column: 0 };
     pen.put_header(command_word(ids, cmd));
+    pen.put(1, 1);
+    pen.put(0, answers as u32);
+    pen.put(u16::from(execute), 1);
     Made(pen.column)
 }

@@ -1,6 +1,6 @@
 //! The chain: its slaves in every column, from the far end to the master.
 
-use super::frame::{registers_of, MOST_BANKS};
+use super::frame::{registers_of, CODES, MOST_BANKS};
 use super::phase::Met;
 use super::rows::{has_bad_byte, is_too_long};
 use super::slave::Slave;
@@ -8,14 +8,15 @@ use super::Outcome::{self, Made, Refused};
 
 const MOST_SLAVES: usize = 16;
 
+/// "Row bytes overwritten by a job are not judged before it": those of cds are not.
 fn refusal(
     slaves: usize,
     banks: &[u8],
     rights: &[u8],
     waits: &[u8],
     registers: &[u8],
-    cdm: &[u8],
-    cds: &[u8],
+    counts: &[u32],
+    [cdm, cds]: [&[u8]; 2],
 ) -> Option<u8> {
     if slaves > MOST_SLAVES {
         return Some(1);
@@ -36,13 +37,15 @@ fn refusal(
     if waits.len() != slaves {
         return Some(18);
     }
+    if counts.len() != CODES * slaves {
+        return Some(21);
+    }
     if is_too_long(cdm) || is_too_long(cds) {
         return Some(5);
     }
     if cdm.len() != cds.len() {
         return Some(6);
     }
-    // "Row bytes overwritten by a job are not judged before it": cds is not.
     has_bad_byte(cdm).then_some(7)
 }
 
@@ -76,22 +79,27 @@ pub fn phases(banks: &[u8], rights: &[u8], waits: &[u8], registers: &mut [u8], c
     met
 }
 
-/// Runs the chain from power-on over a master row.
+/// Runs the chain from power-on over a master row. The counts are those of this run alone.
+#[allow(clippy::too_many_arguments)]
 pub fn run(
     slaves: usize,
     banks: &[u8],
     rights: &[u8],
     waits: &[u8],
     registers: &mut [u8],
+    counts: &mut [u32],
     cdm: &[u8],
     cds: &mut [u8],
 ) -> Outcome {
-    if let Some(number) = refusal(slaves, banks, rights, waits, registers, cdm, cds) {
+    if let Some(number) = refusal(slaves, banks, rights, waits, registers, counts, [cdm, cds]) {
         return Refused(number);
     }
     let mut chain = power_on(banks, rights, waits, registers);
     for (&bit, answer) in cdm.iter().zip(cds.iter_mut()) {
         *answer = chain.iter_mut().fold(0, |seen, slave| slave.step(bit, seen));
+    }
+    for (places, slave) in counts.chunks_exact_mut(CODES).zip(&chain) {
+        places.copy_from_slice(&slave.executed);
     }
     Made(cdm.len())
 }

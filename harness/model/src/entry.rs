@@ -36,6 +36,10 @@ pub enum Kind {
     Echo = 14,
     End = 15,
     Closed = 16,
+    Executed = 17,
+    Withheld = 18,
+    AckOdd = 19,
+    Forced = 20,
 }
 
 /// An entry; "fields not named are 0".
@@ -99,7 +103,7 @@ pub fn column_in(bytes: &[u8]) -> usize {
     bytes.iter().fold(0, |high, &low| high << 8 | usize::from(low))
 }
 
-/// Whether an entry of a kind, 1 to 16, names a bank: "named at addresses 0 to 63".
+/// Whether an entry of a kind, 1 to 20, names a bank: "named at addresses 0 to 63".
 pub fn names_bank(kind: u8, address: u8) -> bool {
     FORMS[usize::from(kind) - 1].address && usize::from(address) < BANK_BYTES
 }
@@ -116,8 +120,8 @@ const fn form(name: &'static str, id: bool, address: bool, value: bool) -> Form 
     Form { name, id, address, value }
 }
 
-/// The forms of kinds 1 to 16, in this order.
-pub const FORMS: [Form; 16] = [
+/// The forms of kinds 1 to 20, in this order.
+pub const FORMS: [Form; 20] = [
     form("lock", false, false, true),
     form("lockodd", false, false, false),
     form("badhead", false, false, false),
@@ -134,4 +138,8 @@ pub const FORMS: [Form; 16] = [
     form("echo", true, true, true),
     form("end", false, false, false),
     form("closed", true, true, false),
+    form("executed", true, false, true),
+    form("withheld", true, false, true),
+    form("ackodd", true, false, true),
+    form("forced", true, false, true),
 ];

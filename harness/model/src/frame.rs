@@ -6,6 +6,17 @@ pub const FIRST_LOCK: u8 = 1;
 /// "Fifteen columns after S: CTS, ten bits, four check bits."
 pub const LAST_HEADER: u8 = 15;
 
+/// The columns of a command, counted from its S: "another start bit (S)", whose column
+/// answers IDA0, "7 Cycles", then EX (000, figure 33).
+pub const FIRST_ACKNOWLEDGE: u8 = 0;
+pub const EX_ADDRESSED: u8 = 8;
+
+/// Of a broadcast "the IDA bits are omitted and the master directly sends the EX bit".
+pub const EX_BROADCAST: u8 = 1;
+
+/// The codes of a command, CMD 0 to 3: a count for each.
+pub const CODES: usize = 4;
+
 /// Data and check bits of a byte.
 pub const BYTE_AND_CHECK: u8 = 12;
 

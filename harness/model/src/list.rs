@@ -84,7 +84,8 @@ fn line(entry: &[u8]) -> String {
 /// The job that prints a list.
 pub fn list_to_text(list: &[u8], out: &mut [u8]) -> Outcome {
     let entries = list.chunks_exact(ENTRY_BYTES);
-    let has_bad_kind = entries.clone().any(|entry| !(1..=16).contains(&entry[KIND]));
+    let has_bad_kind =
+        entries.clone().any(|entry| !(1..=FORMS.len()).contains(&usize::from(entry[KIND])));
     if !entries.remainder().is_empty() || has_bad_kind {
         return Refused(12);
     }

@@ -8,6 +8,9 @@ pub enum Phase {
     Rest,
     Locks,
     Header,
+    CommandStart,
+    Acknowledge,
+    Ex,
     R,
     W,
     ReadStart,
@@ -21,11 +24,14 @@ pub enum Phase {
     Deaf,
 }
 
-pub const PHASES: [Phase; 15] = [
+pub const PHASES: [Phase; 18] = [
     Phase::PowerOn,
     Phase::Rest,
     Phase::Locks,
     Phase::Header,
+    Phase::CommandStart,
+    Phase::Acknowledge,
+    Phase::Ex,
     Phase::R,
     Phase::W,
     Phase::ReadStart,
@@ -45,6 +51,15 @@ pub fn of_header(column: u8) -> Phase {
         Phase::Locks
     } else {
         Phase::Header
+    }
+}
+
+/// The phase of a command's column, counted from its S, where EX stands in this one.
+pub fn of_command(column: u8, ex: u8) -> Phase {
+    match column {
+        0 => Phase::CommandStart,
+        _ if column == ex => Phase::Ex,
+        _ => Phase::Acknowledge,
     }
 }
 

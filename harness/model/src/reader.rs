@@ -18,6 +18,20 @@ struct Access {
     nth: u8,
 }
 
+/// A command, from its header on.
+#[derive(Clone, Copy)]
+struct Command {
+    cmd: u8,
+    ids: u8,
+}
+
+impl Command {
+    /// An entry of it that has its IDS, or its answers, for a value.
+    fn entry(self, kind: Kind, value: u8) -> Entry {
+        Entry::of(kind).place(self.cmd, 0).value(value)
+    }
+}
+
 /// What the reader awaits in the next column.
 #[derive(Clone, Copy)]
 enum Awaits {
@@ -28,6 +42,18 @@ enum Awaits {
         column: u8,
         bits: u16,
         locks: u16,
+    },
+    CommandStart(Command),
+    /// The answers up to now, IDA0 first, and how many they are.
+    Acknowledge {
+        command: Command,
+        answered: u8,
+        answers: u8,
+    },
+    /// Whether the answers did not fit.
+    Ex {
+        command: Command,
+        is_odd: bool,
     },
     R {
         id: u8,
@@ -105,6 +131,11 @@ impl Reader {
             Awaits::Header { column, bits, locks } => {
                 self.header(column, bits << 1 | u16::from(cdm), locks << 1 | u16::from(cds))
             }
+            Awaits::CommandStart(command) => self.command_start(command, cdm, cds),
+            Awaits::Acknowledge { command, answered, answers } => {
+                self.acknowledge(command, answered + 1, answers << 1 | cds)
+            }
+            Awaits::Ex { command, is_odd } => self.ex(command, is_odd, cdm),
             Awaits::R { id, address } => {
                 self.awaits = Awaits::W { id, address, r: cdm, answered_r: cds };
                 None
@@ -130,6 +161,9 @@ impl Reader {
             Awaits::Rest => Phase::Deaf,
             Awaits::Start => Phase::Rest,
             Awaits::Header { column, .. } => of_header(column),
+            Awaits::CommandStart(_) => Phase::CommandStart,
+            Awaits::Acknowledge { .. } => Phase::Acknowledge,
+            Awaits::Ex { .. } => Phase::Ex,
             Awaits::R { .. } => Phase::R,
             Awaits::W { .. } => Phase::W,
             Awaits::ByteStart { access: a, unconfirmed } => of_byte_start(a.writing, unconfirmed),
@@ -186,10 +220,49 @@ impl Reader {
         if word >> 10 == 0 {
             let cmd = (word & 3) as u8;
             let ids = (word >> 2) as u8;
-            return self.deaf_after(Entry::of(Kind::Command).place(cmd, 0).value(ids));
+            let command = Command { cmd, ids };
+            self.awaits = Awaits::CommandStart(command);
+            return Some(command.entry(Kind::Command, ids));
         }
         self.awaits = Awaits::R { id: (word >> 7 & 7) as u8, address: (word & 127) as u8 };
         None
+    }
+
+    /// The answer at S is IDA0 of an addressed command; of a broadcast nobody judges it.
+    fn command_start(&mut self, command: Command, cdm: u8, cds: u8) -> Option<Entry> {
+        self.awaits = if cdm == 0 {
+            Awaits::Rest
+        } else if command.ids == 0 {
+            Awaits::Ex { command, is_odd: false }
+        } else {
+            Awaits::Acknowledge { command, answered: 1, answers: cds }
+        };
+        None
+    }
+
+    /// `answered` and `answers` include this column's.
+    fn acknowledge(&mut self, command: Command, answered: u8, answers: u8) -> Option<Entry> {
+        if answered < 8 {
+            self.awaits = Awaits::Acknowledge { command, answered, answers };
+            return None;
+        }
+        let is_odd = answers != command.ids & self.locked_ids();
+        self.awaits = Awaits::Ex { command, is_odd };
+        is_odd.then_some(command.entry(Kind::AckOdd, answers))
+    }
+
+    /// The locked IDs of this frame as IDS has them, ID 0 highest.
+    fn locked_ids(&self) -> u8 {
+        !(0xFF_u16 >> self.lock) as u8
+    }
+
+    fn ex(&mut self, command: Command, is_odd: bool, cdm: u8) -> Option<Entry> {
+        let kind = match (cdm, is_odd) {
+            (0, _) => Kind::Withheld,
+            (_, false) => Kind::Executed,
+            (_, true) => Kind::Forced,
+        };
+        self.deaf_after(command.entry(kind, command.ids))
     }
 
     fn w(&mut self, id: u8, address: u8, sent: (u8, u8), answered: (u8, u8)) -> Option<Entry> {

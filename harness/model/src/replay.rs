@@ -1,7 +1,8 @@
-//! Replay: what a list alone tells about the registers.
+//! Replay: what a list alone tells about the registers, and about the executions.
 
 use super::account::place;
 use super::entry::{Entry, Kind};
+use super::frame::CODES;
 
 /// Registers that the `written` entries of a list are put into, each where "the replayed
 /// bank register" has it.
@@ -43,4 +44,16 @@ pub fn reads_show_what_stood(banks: &[u8], registers: &[u8], entries: &[Entry]) 
         Kind::Read => replayed.at(entry).is_some_and(|stood| *stood == entry.value),
         _ => true,
     })
+}
+
+/// "The listed executions, counted": of a broadcast once for every slave, of an addressed
+/// command once for each whose ID, its place in the chain, it names. Far slave first.
+pub fn executions(slaves: usize, entries: &[Entry]) -> Vec<u32> {
+    let of = |slave: usize, code: usize| {
+        let is_for = |ids: u8| ids == 0 || (slave < 8 && ids.reverse_bits() >> slave & 1 == 1);
+        let counts =
+            |e: &&Entry| e.kind == Kind::Executed && usize::from(e.id) == code && is_for(e.value);
+        entries.iter().filter(counts).count() as u32
+    };
+    (0..slaves).flat_map(|slave| (0..CODES).map(move |code| of(slave, code))).collect()
 }

@@ -2,9 +2,10 @@
 
 use super::check::{check_bits, check_is_right, BYTE_BITS, HEADER_BITS};
 use super::frame::{
-    ADDRESSES, BANK_BYTES, BANK_REGISTER, BYTE_AND_CHECK, FIRST_LOCK, LAST_HEADER, MOST_BYTES,
+    ADDRESSES, BANK_BYTES, BANK_REGISTER, BYTE_AND_CHECK, CODES, EX_ADDRESSED, EX_BROADCAST,
+    FIRST_ACKNOWLEDGE, FIRST_LOCK, LAST_HEADER, MOST_BYTES,
 };
-use super::phase::{of_access, of_byte_start, of_header, Phase};
+use super::phase::{of_access, of_byte_start, of_command, of_header, Phase};
 use super::rows::Zeros;
 
 /// "One right for each: 0 none, 1 read, 2 write, 3 both."
@@ -23,6 +24,24 @@ struct Access {
     passed: u8,
 }
 
+/// A command that is for this slave.
+#[derive(Clone, Copy)]
+struct Command {
+    code: u8,
+    is_broadcast: bool,
+}
+
+impl Command {
+    /// The column of EX, counted from the command's S.
+    fn ex(self) -> u8 {
+        if self.is_broadcast {
+            EX_BROADCAST
+        } else {
+            EX_ADDRESSED
+        }
+    }
+}
+
 /// What a slave awaits in the next column.
 #[derive(Clone, Copy)]
 enum Awaits {
@@ -33,6 +52,11 @@ enum Awaits {
     Header {
         seen: u8,
         bits: u16,
+    },
+    /// A column of a command, counted from its S.
+    Command {
+        command: Command,
+        column: u8,
     },
     R {
         address: u8,
@@ -65,6 +89,8 @@ pub struct Slave<'a> {
     /// The waiting number.
     wait: u8,
     registers: &'a mut [u8],
+    /// How often each code was executed.
+    pub executed: [u32; CODES],
     zeros: Zeros,
     number: Option<u8>,
     awaits: Awaits,
@@ -77,8 +103,17 @@ impl<'a> Slave<'a> {
         wait: u8,
         registers: &'a mut [u8],
     ) -> Slave<'a> {
-        let (banks, zeros) = (usize::from(banks), Zeros::none_yet());
-        Slave { banks, rights, wait, registers, zeros, number: None, awaits: Awaits::Rest }
+        let (banks, zeros, executed) = (usize::from(banks), Zeros::none_yet(), [0; CODES]);
+        Slave {
+            banks,
+            rights,
+            wait,
+            registers,
+            executed,
+            zeros,
+            number: None,
+            awaits: Awaits::Rest,
+        }
     }
 
     pub fn phase(&self) -> Phase {
@@ -86,6 +121,7 @@ impl<'a> Slave<'a> {
             Awaits::Rest => Phase::Deaf,
             Awaits::Start => Phase::Rest,
             Awaits::Header { seen, .. } => of_header(seen + 1),
+            Awaits::Command { command, column } => of_command(column, command.ex()),
             Awaits::R { .. } => Phase::R,
             Awaits::W { .. } => Phase::W,
             Awaits::ByteStart { access: a, waited } => of_byte_start(a.writing, waited > 0),
@@ -110,6 +146,7 @@ impl<'a> Slave<'a> {
             Awaits::Header { seen: before, bits } => {
                 self.header(before + 1, bits << 1 | u16::from(cdm), seen)
             }
+            Awaits::Command { command, column } => self.command(command, column, cdm, seen),
             Awaits::R { address } => {
                 self.awaits = Awaits::W { address, r: cdm };
                 cdm
@@ -159,10 +196,46 @@ impl<'a> Slave<'a> {
         let is_register_access = bits >> 14 == 1;
         let id = (bits >> 11 & 7) as u8;
         let address = (bits >> 4 & 127) as u8;
-        if !check_is_right(bits, HEADER_BITS) || !is_register_access || self.number != Some(id) {
+        if !check_is_right(bits, HEADER_BITS) {
+            return Awaits::Rest;
+        }
+        if !is_register_access {
+            return self.after_command_header((bits >> 6) as u8, (bits >> 4 & 3) as u8);
+        }
+        if self.number != Some(id) {
             return Awaits::Rest;
         }
         Awaits::R { address }
+    }
+
+    /// "Each IDS bit represents one" ID, "starting with 0": the highest bit. Whoever is
+    /// not named passes bits on, and so is deaf; a broadcast is for all.
+    fn after_command_header(&self, ids: u8, code: u8) -> Awaits {
+        let is_broadcast = ids == 0;
+        let is_named = self.number.is_some_and(|id| ids << id & 0x80 != 0);
+        if !is_broadcast && !is_named {
+            return Awaits::Rest;
+        }
+        Awaits::Command { command: Command { code, is_broadcast }, column: 0 }
+    }
+
+    /// A named slave sends 1 in its own IDA column. The master's bits between S and EX are
+    /// not judged.
+    fn command(&mut self, command: Command, column: u8, cdm: u8, seen: u8) -> u8 {
+        let (is_start, is_ex) = (column == 0, column == command.ex());
+        if is_ex && cdm == 1 {
+            self.executed[usize::from(command.code)] += 1;
+        }
+        if is_ex || is_start && cdm == 0 {
+            self.awaits = Awaits::Rest;
+            return seen;
+        }
+        self.awaits = Awaits::Command { command, column: column + 1 };
+        let own = self.number.map(|id| FIRST_ACKNOWLEDGE + id);
+        if !command.is_broadcast && own == Some(column) {
+            return 1;
+        }
+        seen
     }
 
     /// The place of the register that an address shows; none where "the register names

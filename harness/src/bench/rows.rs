@@ -5,7 +5,7 @@ use model::entry::ENTRY_BYTES;
 use model::frame::{registers_of, BANK_BYTES, BANK_REGISTER};
 use model::table::Stretch;
 use model::Outcome::Made;
-use model::{build_read, build_write};
+use model::{build_command, build_read, build_write};
 
 pub const LENGTHS: [usize; 2] = [46, 4096];
 /// Varied rows are run in turn, too many for branch prediction to learn them.
@@ -16,6 +16,14 @@ const SEED: u64 = 1;
 pub const WAIT: u8 = 3;
 /// The banks of the slaves of rows that are named for banks.
 pub const BANKS: u8 = 8;
+
+/// What the frames of varied rows are.
+#[derive(Clone, Copy, PartialEq, Eq)]
+enum Frames {
+    Accesses,
+    /// Every other one a command that is executed.
+    WithCommands,
+}
 
 /// Rows of one name, which are run in turn, and what slaves they are built for.
 pub struct Rows {
@@ -33,11 +41,12 @@ pub fn timed(slaves: usize) -> Vec<Rows> {
         all.push(named("dense", 1, 0, vec![dense(columns)]));
         all.push(named("idle", 1, 0, vec![vec![0; columns]]));
     }
-    all.push(named("varied", 1, 0, varied(slaves, 1, 0)));
-    all.push(named("banks", BANKS, 0, varied(slaves, BANKS, 0)));
+    all.push(named("varied", 1, 0, varied(slaves, 1, 0, Frames::Accesses)));
+    all.push(named("banks", BANKS, 0, varied(slaves, BANKS, 0, Frames::Accesses)));
     if slaves == 1 {
-        all.push(named("waits", 1, WAIT, varied(slaves, 1, WAIT)));
+        all.push(named("waits", 1, WAIT, varied(slaves, 1, WAIT, Frames::Accesses)));
     }
+    all.push(named("commands", 1, 0, varied(slaves, 1, 0, Frames::WithCommands)));
     all
 }
 
@@ -62,15 +71,19 @@ pub fn dense(columns: usize) -> Vec<u8> {
 
 /// Reads and writes of one to eight random bytes at random places of these
 /// slaves, which all have so many banks and wait so long, 14 to 60 zeros before each.
-/// Where there are several banks, every other frame chooses one.
-fn varied_row(random: &mut Random, slaves: usize, banks: u8, wait: u8) -> Vec<u8> {
+/// Where there are several banks, every other frame chooses one; where there are commands,
+/// every other frame is one, to all or to any.
+fn varied_row(random: &mut Random, slaves: usize, banks: u8, wait: u8, frames: Frames) -> Vec<u8> {
     let mut row = Vec::new();
     let mut frame = [0; 32 + (14 + WAIT as usize) * 8];
     while row.len() < 4096 {
         let id = random.below(slaves.min(8)) as u8;
         let count = random.between(1, 8);
         let address = random.below(129 - count) as u8;
-        let made = if banks > 1 && random.one_in(2) {
+        let made = if frames == Frames::WithCommands && random.one_in(2) {
+            let any = random.next() as u8;
+            build_command(random.pick(&[0, any]), random.below(4) as u8, true, &mut frame)
+        } else if banks > 1 && random.one_in(2) {
             build_write(id, BANK_REGISTER, &[random.below(banks.into()) as u8], wait, &mut frame)
         } else if random.one_in(2) {
             build_read(id, address, count, wait, &mut frame)
@@ -85,9 +98,9 @@ fn varied_row(random: &mut Random, slaves: usize, banks: u8, wait: u8) -> Vec<u8
     row
 }
 
-fn varied(slaves: usize, banks: u8, wait: u8) -> Vec<Vec<u8>> {
+fn varied(slaves: usize, banks: u8, wait: u8, frames: Frames) -> Vec<Vec<u8>> {
     let mut random = Random::from_seed(SEED);
-    (0..VARIED_ROWS).map(|_| varied_row(&mut random, slaves, banks, wait)).collect()
+    (0..VARIED_ROWS).map(|_| varied_row(&mut random, slaves, banks, wait, frames)).collect()
 }
 
 /// How many stretches of a recording are read in one call.
@@ -95,7 +108,7 @@ pub const STRETCHES: usize = 1000;
 
 /// The varied rows of one slave joined to one recording.
 pub fn varied_recording() -> [Vec<u8>; 2] {
-    let all = Rows { name: "varied", banks: 1, wait: 0, rows: varied(1, 1, 0) };
+    let all = Rows { name: "varied", banks: 1, wait: 0, rows: varied(1, 1, 0, Frames::Accesses) };
     let answers: Vec<Vec<u8>> = all.rows.iter().map(|cdm| all.answered(cdm)).collect();
     [all.rows.concat(), answers.concat()]
 }
@@ -121,8 +134,9 @@ impl Rows {
         let mut registers = Random::from_seed(SEED).bytes(registers_of(self.banks));
         registers[BANK_BYTES * usize::from(self.banks)] = 0;
         let rights = vec![3; registers.len()];
+        let (banks, waits, counts) = ([self.banks], [self.wait], &mut [0; 4]);
         let mut cds = vec![0; cdm.len()];
-        model::run(1, &[self.banks], &rights, &[self.wait], &mut registers, cdm, &mut cds);
+        model::run(1, &banks, &rights, &waits, &mut registers, counts, cdm, &mut cds);
         cds
     }
 

@@ -88,7 +88,7 @@ pub fn bench() {
         let [model, library, singly] = best.map(|time| time / columns as f64);
         let (ratio, each) = (library / model, library / singly);
         println!(
-            "{what:<16}{columns:>8}  {row:<6}{model:>10.2}{library:>10.2}{ratio:>12.2}{each:>12.2}"
+            "{what:<16}{columns:>8}  {row:<8}{model:>10.2}{library:>10.2}{ratio:>12.2}{each:>12.2}"
         );
     }
 }

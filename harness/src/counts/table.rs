@@ -1,15 +1,18 @@
 //! The counts as a table.
 
 use super::banks::{BANKS, LATE, NAMED, PASSED_OVER, SITUATIONS};
+use super::commands::{Commanded, FATES, FORMS, HEADER_CUTS, ORDERS, SLAVES};
 use super::stretches::TABLED;
 use super::told_jobs::{Told, EDGES, HOLDING, PLACES, SIDES};
 use super::waits::{told, BYTES, REPEATED, WAITS};
+use super::ways::{coded, LISTED};
 use super::{kind_name, kinds, Count, Counts, Part, LOCKS, PARTS};
 use crate::case::Listed;
 use crate::conditions::OF_JOB;
 use crate::generate::recordings::{Answers, ANSWERS};
 use crate::generate::texts::Faults;
 use crate::jobs::JOBS;
+use model::frame::CODES;
 use model::phase::PHASES;
 use std::ops::RangeInclusive;
 
@@ -22,10 +25,24 @@ fn row(name: &str, cells: Vec<String>) -> String {
     format!("{name:<23}{cells}\n")
 }
 
+/// Six to a line.
+fn lines(all: Vec<String>) -> String {
+    all.chunks(6).map(|some| format!("   {}\n", some.join(", "))).collect()
+}
+
+fn joined(counts: impl Iterator<Item = u64>) -> String {
+    counts.map(|count| count.to_string()).collect::<Vec<_>>().join(" ")
+}
+
+fn code(cmd: u8) -> String {
+    format!("CMD {cmd}")
+}
+
 impl Counts {
     pub fn table(&self) -> String {
         let jobs: String = JOBS.iter().map(|job| self.table_of_job(job)).collect();
         let machines = self.table_of_phases() + &self.table_of_waits() + &self.table_of_banks();
+        let machines = machines + &self.table_of_commands() + &self.table_of_listed_commands();
         let tables = self.table_of_stretches() + &self.table_of_told_jobs();
         self.table_of_entries() + &machines + &self.table_of_faults() + &tables + &jobs
     }
@@ -128,6 +145,54 @@ impl Counts {
         }
     }
 
+    fn table_of_commands(&self) -> String {
+        let times = |met| self.of_command(met).to_string();
+        let codes = 0..CODES as u8;
+        let mut text = format!("\n{}", row("commands", codes.clone().map(code).collect()));
+        for form in FORMS {
+            for fate in FATES {
+                let cells = codes.clone().map(|cmd| times(Commanded::Became(form, cmd, fate)));
+                text += &row(&format!("   {form:?} {fate:?}"), cells.collect());
+            }
+            for slave in 0..form.slaves() {
+                let cells = codes.clone().map(|cmd| times(Commanded::CountedFor(form, slave, cmd)));
+                text += &row(&format!("   {form:?} for {slave}"), cells.collect());
+            }
+        }
+        let header = HEADER_CUTS.map(|column| self.of_command(Commanded::Cut(None, column)));
+        text += &format!("   cut in the header {}\n", joined(header));
+        for form in FORMS {
+            let cut = form.cuts().map(|column| self.of_command(Commanded::Cut(Some(form), column)));
+            let slaves = SLAVES.map(|slaves| self.of_command(Commanded::ExecutedBy(form, slaves)));
+            text += &format!("   {form:?} cut behind it {}\n", joined(cut));
+            text += &format!("   {form:?}, 0 to 16 slaves {}\n", joined(slaves));
+        }
+        text + &lines(
+            ORDERS
+                .map(|met| format!("{met:?} {}", self.of_command(Commanded::Ordered(met))))
+                .into(),
+        )
+    }
+
+    fn table_of_listed_commands(&self) -> String {
+        let codes = 0..CODES as u8;
+        let mut text = row("listed", codes.clone().map(code).collect());
+        for answers in ANSWERS {
+            for &kind in coded(answers) {
+                let times =
+                    |cmd| self.of_command(Commanded::Coded(answers, kind as u8, cmd)).to_string();
+                let name = format!("   {answers:?} {}", kind_name(kind as u8));
+                text += &row(&name, codes.clone().map(times).collect());
+            }
+        }
+        for (kind, ways) in LISTED {
+            let kind = kind as u8;
+            let way = |&way| format!("{way:?} {}", self.of_command(Commanded::Listed(kind, way)));
+            text += &format!("   {}\n{}", kind_name(kind), lines(ways.iter().map(way).collect()));
+        }
+        text
+    }
+
     fn table_of_faults(&self) -> String {
         let row = |name: &str, cell: &dyn Fn(usize) -> String| {
             let cells: String = LINE.map(|byte| format!("{:>7}", cell(byte))).collect();
@@ -147,9 +212,6 @@ impl Counts {
         let met = TABLED.iter().map(|&met| format!("{met:?} {}", self.of(Count::Table(met))));
         let edges =
             EDGES.map(|edge| format!("{edge:?} {}", self.of(Count::Told(Told::Edge(edge)))));
-        let lines = |all: Vec<String>| -> String {
-            all.chunks(6).map(|some| format!("   {}\n", some.join(", "))).collect()
-        };
         let [met, edges] = [lines(met.collect()), lines(edges.into())];
         format!("\ntables\n{met}tables just refused\n{edges}")
     }

@@ -105,7 +105,7 @@ fn wait(random: &mut Random) -> u8 {
 /// A chain and a master row within all limits.
 pub fn chain_and_row(random: &mut Random) -> (Chain, MasterRow) {
     let mut chain = chain(random);
-    if !random.one_in(10) {
+    if !random.one_in(9) {
         let row = master_row(random, &chain);
         return (chain, row);
     }

@@ -2,11 +2,12 @@
 //! or not, and spoiled. Many choose a bank or cross the border to the bank register.
 
 use super::chains::{bank_number, Chain};
+use super::commands::command;
 use super::random::Random;
 use model::frame::BANK_REGISTER;
 use model::rows::{MOST_COLUMNS, ZEROS_TO_REST};
 use model::Outcome::{self, Made};
-use model::{build_command, build_read, build_write};
+use model::{build_read, build_write};
 use std::ops::Range;
 
 const BYTE_COLUMNS: usize = 14;
@@ -49,7 +50,7 @@ pub fn frame(random: &mut Random, chain: &Chain, chosen: Option<u8>) -> Frame {
             let address = random.below(64);
             register_access(random, chain, id.into(), address)
         }
-        _ if random.one_in(6) => command(random),
+        _ if random.one_in(5) => command(random, chain),
         _ => any_access(random, chain),
     };
     if random.one_in(4) {
@@ -62,12 +63,6 @@ pub fn frame(random: &mut Random, chain: &Chain, chosen: Option<u8>) -> Frame {
         frame.spoil(random);
     }
     frame
-}
-
-fn command(random: &mut Random) -> Frame {
-    let ids = if random.one_in(2) { 0 } else { random.next() as u8 };
-    let cmd = random.below(4) as u8;
-    Frame::built(0, false, 0, |row| build_command(ids, cmd, row))
 }
 
 fn any_access(random: &mut Random, chain: &Chain) -> Frame {
@@ -141,7 +136,12 @@ fn byte_count(random: &mut Random, wait: u8) -> usize {
 }
 
 impl Frame {
-    fn built(bytes: usize, writing: bool, wait: u8, build: impl Fn(&mut [u8]) -> Outcome) -> Frame {
+    pub fn built(
+        bytes: usize,
+        writing: bool,
+        wait: u8,
+        build: impl Fn(&mut [u8]) -> Outcome,
+    ) -> Frame {
         let mut row = vec![0; MOST_COLUMNS];
         let Made(columns) = build(&mut row) else {
             unreachable!("the arguments are within the limits")

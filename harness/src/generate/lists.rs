@@ -7,7 +7,7 @@ use model::entry::{COLUMN, ENTRY_BYTES, ID, KIND, START};
 use model::list::list;
 
 /// What a spoiled list is marked with.
-pub const LIST_SPOILS: [&str; 4] = ["ragged", "kind 0", "kind 17", "kind over 17"];
+pub const LIST_SPOILS: [&str; 4] = ["ragged", "kind 0", "kind 21", "kind over 21"];
 
 /// The bytes of a list: one that was read, or kinds with any fields, at times
 /// many.
@@ -29,7 +29,7 @@ fn entry(random: &mut Random) -> Vec<u8> {
         entry[START].copy_from_slice(&random.pick(&columns).to_be_bytes());
         entry[ID..].fill_with(|| random.pick(&[0, 1, 9, 10, 63, 64, 99, 100, 199, 255]));
     }
-    entry[KIND] = random.between(1, 16) as u8;
+    entry[KIND] = random.between(1, 20) as u8;
     entry
 }
 
@@ -41,13 +41,13 @@ pub fn spoil_list(random: &mut Random, list: &mut Vec<u8>) -> Marks {
         let any = random.below(entries);
         let place = random.pick(&[0, entries - 1, any]);
         let spoil = random.between(1, 3);
-        let over = random.between(18, 255) as u8;
-        list[ENTRY_BYTES * place + KIND] = [0, 17, over][spoil - 1];
+        let over = random.between(22, 255) as u8;
+        list[ENTRY_BYTES * place + KIND] = [0, 21, over][spoil - 1];
         marks.push(LIST_SPOILS[spoil]);
     }
     if marks.is_empty() || random.one_in(4) {
         let length = list.len() + random.between(1, ENTRY_BYTES - 1);
-        let kind = random.between(0, 20) as u8;
+        let kind = random.between(0, 24) as u8;
         list.resize(length, kind);
         marks.push("ragged");
     }

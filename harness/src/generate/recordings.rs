@@ -1,11 +1,12 @@
 //! Recorded rows, whole and spoiled.
 
 use super::chains::{chain_and_row, Chain};
+use super::commands::spoil_acknowledgements;
 use super::provoked::{other_length, spoil_byte, Provoked, BAD_ROW_BYTES};
 use super::random::Random;
 use super::rows::long_row;
 use model::entry::{Entry, Kind};
-use model::frame::BANK_REGISTER;
+use model::frame::{BANK_REGISTER, CODES};
 use model::list::list;
 use model::run;
 
@@ -29,9 +30,9 @@ pub struct Recording {
 pub fn recording(random: &mut Random) -> Recording {
     let (mut chain, row) = chain_and_row(random);
     let mut cdm = row.cdm;
-    let mut cds = vec![0; cdm.len()];
+    let (counts, mut cds) = (&mut vec![0; CODES * chain.slaves], vec![0; cdm.len()]);
     let Chain { slaves, banks, rights, waits, registers } = &mut chain;
-    run(*slaves, banks, rights, waits, registers, &cdm, &mut cds);
+    run(*slaves, banks, rights, waits, registers, counts, &cdm, &mut cds);
     let answers = random.pick(&ANSWERS);
     if !cdm.is_empty() {
         match answers {
@@ -101,6 +102,9 @@ fn damage(random: &mut Random, cdm: &mut [u8], cds: &mut [u8]) {
         }
         5 | 6 => break_line(random, cdm, cds),
         _ => flip_at_entries(random, cdm, cds),
+    }
+    if random.one_in(2) {
+        spoil_acknowledgements(random, cdm, cds);
     }
 }
 

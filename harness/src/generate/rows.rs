@@ -1,6 +1,7 @@
 //! Master rows: frames, joined and cut, and rows without sense.
 
 use super::chains::Chain;
+use super::commands::{built, command, cut, ids};
 use super::frames::{access, frame, Frame, Repeats};
 use super::random::Random;
 use model::rows::MOST_COLUMNS;
@@ -40,7 +41,9 @@ pub fn master_row(random: &mut Random, chain: &Chain) -> MasterRow {
     let mut row = match random.below(24) {
         0 => MasterRow { cdm: random.bits(target, ones), ..MasterRow::default() },
         1 => MasterRow { cdm: vec![0; target], ..MasterRow::default() },
-        _ => joined_frames(random, target, chain),
+        2 if random.one_in(4) => one_command(random, chain),
+        2..=3 => joined_frames(random, target, chain, true),
+        _ => joined_frames(random, target, chain, false),
     };
     if random.one_in(2) {
         row.cdm.truncate(target);
@@ -52,7 +55,7 @@ pub fn master_row(random: &mut Random, chain: &Chain) -> MasterRow {
 /// A row of more than 4,096 columns.
 pub fn long_row(random: &mut Random) -> Vec<u8> {
     let extra = random.pick(&[1, 1, 1, 2, 100]);
-    let mut row = joined_frames(random, 200, &Chain::default()).cdm;
+    let mut row = joined_frames(random, 200, &Chain::default(), false).cdm;
     row.resize(MOST_COLUMNS + extra, 0);
     row
 }
@@ -85,7 +88,27 @@ fn length(random: &mut Random) -> usize {
     }
 }
 
-fn joined_frames(random: &mut Random, target: usize, chain: &Chain) -> MasterRow {
+/// A row full of one command, so often as it has columns for.
+fn one_command(random: &mut Random, chain: &Chain) -> MasterRow {
+    let any = ids(random, chain.slaves);
+    let ids = random.pick(&[0, any]);
+    let frame = built(random, ids);
+    let mut row = MasterRow::default();
+    while row.cdm.len() < MOST_COLUMNS {
+        row.push_zeros(14);
+        row.push(&frame);
+    }
+    row
+}
+
+/// Frames one after the other, mostly commands or mostly accesses; the last one may be a
+/// command that is cut.
+fn joined_frames(
+    random: &mut Random,
+    target: usize,
+    chain: &Chain,
+    is_of_commands: bool,
+) -> MasterRow {
     let mut row = MasterRow::default();
     if random.one_in(8) {
         let columns = random.between(0, 20);
@@ -96,11 +119,17 @@ fn joined_frames(random: &mut Random, target: usize, chain: &Chain) -> MasterRow
         row.push_zeros(
             random.pick(&[0, 1, 5, 12, 13, 13, 14, 14, 14, 14, 14, 14, 14, 15, 15, 16, 28, 40]),
         );
-        let frame = frame(random, chain, chosen);
+        let is_command = is_of_commands && !random.one_in(4);
+        let frame = if is_command { command(random, chain) } else { frame(random, chain, chosen) };
         chosen = frame.chooses;
         row.push(&frame);
     }
-    if random.one_in(2) {
+    if random.one_in(if is_of_commands { 2 } else { 10 }) {
+        row.push_zeros(14);
+        let mut last = command(random, chain);
+        cut(random, &mut last);
+        row.push(&last);
+    } else if random.one_in(2) {
         row.push_zeros(random.between(0, 16));
     }
     row

@@ -123,8 +123,8 @@ impl Access {
         waits[slaves - 1] = self.wait;
         let banks = vec![2; slaves];
         let (rights, mut registers) = (vec![3; 192 * slaves], vec![0; 192 * slaves]);
-        let mut cds = vec![0; row.len()];
-        model::run(slaves, &banks, &rights, &waits, &mut registers, row, &mut cds);
+        let (counts, mut cds) = (&mut vec![0; 4 * slaves], vec![0; row.len()]);
+        model::run(slaves, &banks, &rights, &waits, &mut registers, counts, row, &mut cds);
         let entries = list(row, &cds, 0);
         let kind = if self.writing { Kind::Written } else { Kind::Read };
         let bytes: Vec<_> = entries.iter().filter(|entry| entry.kind == kind).collect();

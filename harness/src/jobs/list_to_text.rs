@@ -16,7 +16,7 @@ fields!(ListToText { ; list: List, out: Room });
 
 impl Job for ListToText {
     const REFUSALS: Refusals<ListToText> = &[
-        (12, |case| case.is_ragged() || case.kinds().any(|kind| !(1..=16).contains(&kind))),
+        (12, |case| case.is_ragged() || case.kinds().any(|kind| !(1..=20).contains(&kind))),
         (9, |case| printed_bytes(&case.list).unwrap_or(1) > case.out.len()),
     ];
 
@@ -26,7 +26,7 @@ impl Job for ListToText {
 
     fn make(random: &mut Random, provoked: &Provoked, marks: &mut Marks) -> ListToText {
         let mut list = list_bytes(random);
-        let needed = printed_bytes(&list).expect("all kinds are within 1 to 16");
+        let needed = printed_bytes(&list).expect("all kinds are within 1 to 20");
         if provoked.has(12) {
             marks.extend(spoil_list(random, &mut list));
         }
@@ -56,7 +56,8 @@ impl Job for ListToText {
             let bytes = cases.iter().map(|case| case.out.len()).sum();
             Timed::new(&format!("list, {}", entries / cases.len()), timed.name, bytes, cases)
         };
-        let is_timed = |timed: &Rows| ["dense", "varied", "banks"].contains(&timed.name);
+        let is_timed =
+            |timed: &Rows| ["dense", "varied", "banks", "commands"].contains(&timed.name);
         rows::timed(1).into_iter().filter(is_timed).map(timed).collect()
     }
 }

@@ -3,7 +3,7 @@
 use super::Calls;
 use crate::bench::rows::{self, Rows};
 use crate::bench::Timed;
-use crate::checks::{banks, gives_up, late_opening, must, starts};
+use crate::checks::{banks, commands, gives_up, late_opening, must, starts};
 use crate::conditions::{bad_byte, too_long};
 use crate::counts::{Count, Counts};
 use crate::generate::provoked::{TWO_16, TWO_32};
@@ -61,6 +61,7 @@ impl Job for Read {
         starts(&self.cdm, left.list(made))?;
         banks(left.list(made))?;
         gives_up(&self.cdm, &self.cds, left.list(made))?;
+        commands(&self.cdm, &self.cds, left.list(made))?;
         late_opening(&self.cdm, &self.cds, random)
     }
 
@@ -89,6 +90,7 @@ impl Job for Read {
         }
         let met = phases(&self.cdm, &self.cds, self.opening);
         counts.add_phases(Count::ReaderAt, &met);
+        counts.add_read_commands(self.answers, [&self.cdm, &self.cds], &entries(self.opening));
     }
 
     fn roomy(&self) -> Read {

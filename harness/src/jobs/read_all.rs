@@ -3,7 +3,7 @@
 use super::read::printed;
 use super::{Calls, Lists};
 use crate::bench::Timed;
-use crate::checks::{banks, gives_up, must, starts};
+use crate::checks::{banks, commands, gives_up, must, starts};
 use crate::conditions::{holds_of_job, OF_JOB};
 use crate::counts::stretches::Taken;
 use crate::counts::told_jobs::Untaken;
@@ -90,7 +90,8 @@ impl Job for ReadAll {
                 let [cdm, cds] = self.cut(job);
                 starts(cdm, list)?;
                 banks(list)?;
-                gives_up(cdm, cds, list)
+                gives_up(cdm, cds, list)?;
+                commands(cdm, cds, list)
             }),
         }
     }

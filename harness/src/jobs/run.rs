@@ -2,7 +2,7 @@
 
 use super::Calls;
 use crate::bench::{rows, Timed};
-use crate::checks::{banks, gives_up, late_opening, must, starts};
+use crate::checks::{banks, commands, gives_up, late_opening, must, starts};
 use crate::conditions::{bad_byte, too_long};
 use crate::counts::{Count, Counts};
 use crate::generate::chains::{bank_registers, chain_and_row, chain_of, Chain};
@@ -11,18 +11,19 @@ use crate::generate::recordings::two_lengths;
 use crate::generate::rows::Known;
 use crate::generate::{Marks, Provoked, Random};
 use crate::job::{fields, Job, Refusals};
-use crate::lent::{Lent, Use};
+use crate::lent::{Lent, Use, EXECUTED};
 use model::account::{account, Account};
 use model::chain::phases;
 use model::entry::{Entry, Kind};
 use model::list::list;
-use model::replay::{reads_show_what_stood, replay};
+use model::replay::{executions, reads_show_what_stood, replay};
 use model::slave::allows;
 use model::Outcome::{self, Made};
 
 fields!(Run {
     slaves: usize;
-    banks: Banks, rights: Rights, waits: Bytes, registers: Bytes, cdm: Row, cds: Row;
+    banks: Banks, rights: Rights, waits: Bytes, registers: Bytes, counts: Counts,
+    cdm: Row, cds: Row;
     known: Vec<Known>
 });
 
@@ -34,12 +35,17 @@ impl Job for Run {
         (3, |case| case.rights.len() != bytes_of(&case.banks)),
         (4, |case| case.rights.iter().any(|right| ![0, 1, 2, 3].contains(right))),
         (18, |case| case.waits.len() != case.slaves),
+        (21, |case| case.counts.len() as u128 != 16 * case.slaves as u128),
         (5, |case| too_long(&case.cdm, &case.cds)),
         (6, |case| case.cdm.len() != case.cds.len()),
         (7, |case| bad_byte(&case.cdm)),
     ];
 
-    fn make(random: &mut Random, provoked: &Provoked, _: &mut Marks) -> Run {
+    fn marks() -> Marks {
+        OTHER_COUNTS.map(|(mark, _)| mark).into()
+    }
+
+    fn make(random: &mut Random, provoked: &Provoked, marks: &mut Marks) -> Run {
         let (mut chain, row) = chain_and_row(random);
         if provoked.has(1) && random.one_in(4) {
             chain.slaves += random.pick(&[256, TWO_16, TWO_32, TWO_57, usize::MAX - 16]);
@@ -47,21 +53,8 @@ impl Job for Run {
             let slaves = random.pick(&[17, 17, 17, 18, 32, 200]);
             chain = chain_of(random, slaves);
         }
-        if provoked.has(19) {
-            spoil_banks(random, &mut chain);
-        }
-        if provoked.has(2) {
-            spoil_length(random, &mut chain.registers, 7);
-        }
-        if provoked.has(3) {
-            spoil_length(random, &mut chain.rights, 3);
-        }
-        if provoked.has(4) {
-            spoil_byte(random, &mut chain.rights, &[4, 5, 7, 8, 128, 255]);
-        }
-        if provoked.has(18) {
-            spoil_table(random, &mut chain.waits, 0);
-        }
+        let counts = counts(random, chain.banks.len(), provoked.has(21), marks);
+        spoil_chain(random, &mut chain, provoked);
         let (mut cdm, cds_length) = two_lengths(random, row.cdm, provoked);
         if provoked.has(7) {
             spoil_byte(random, &mut cdm, BAD_ROW_BYTES);
@@ -73,6 +66,7 @@ impl Job for Run {
             rights: Lent::copy(&chain.rights),
             waits: Lent::copy(&chain.waits),
             registers: Lent::copy(&chain.registers),
+            counts,
             cdm: Lent::copy(&cdm),
             cds: Lent::copy(&cds),
             known: row.known,
@@ -80,8 +74,9 @@ impl Job for Run {
     }
 
     fn call(&mut self, calls: &impl Calls) -> Outcome {
-        let Run { slaves, banks, rights, waits, registers, cdm, cds, .. } = self;
-        calls.run(*slaves, banks, rights, waits, registers, cdm, cds)
+        let Run { slaves, banks, rights, waits, registers, counts, cdm, cds, .. } = self;
+        let counts = counts.executed_mut();
+        calls.run(*slaves, banks, rights, waits, registers, counts, cdm, cds)
     }
 
     fn check(&self, left: &Run, outcome: Outcome, random: &mut Random) -> Result<(), String> {
@@ -94,10 +89,15 @@ impl Job for Run {
         must(account.registers == left.registers[..], "the account's registers are the chain's")?;
         must(replayed == left.registers[..], "replay gives the final registers")?;
         must(reads, "reads show what stood there")?;
+        let counts = left.counts.executed();
+        must(account.executed == counts, "the account's executions are the chain's counts")?;
+        let listed = executions(self.slaves, &entries);
+        must(listed == counts, "the listed executions, counted, are the chain's counts")?;
         let account: Vec<u8> = account.entries.iter().flat_map(|entry| entry.bytes()).collect();
         starts(&self.cdm, &account)?;
         banks(&account)?;
         gives_up(&self.cdm, &left.cds, &account)?;
+        commands(&self.cdm, &left.cds, &account)?;
         let waits =
             |entry: &Entry| entry.kind != Kind::Mute || self.waits[usize::from(entry.id)] > 0;
         must(entries.iter().all(waits), "only a slave that waits is given up")?;
@@ -105,13 +105,14 @@ impl Job for Run {
         self.check_two_runs(left, random)
     }
 
-    fn count(&self, _: &Run, _: usize, counts: &mut Counts) {
+    fn count(&self, left: &Run, _: usize, counts: &mut Counts) {
         let Run { banks, rights, waits, registers, cdm, known, .. } = self;
         let met = phases(banks, rights, waits, &mut registers.clone(), cdm);
         counts.add_phases(Count::SlaveAt, &met);
         let account = self.account().entries;
         counts.add_waits(waits, cdm, known, &account);
         counts.add_banks(banks, rights, registers, &account);
+        counts.add_run_commands(self.slaves, cdm, &account, &left.counts.executed());
     }
 
     fn shown(&self, who: &str, _: usize) -> String {
@@ -149,6 +150,7 @@ impl Run {
             rights: Lent::copy(&vec![3; registers.len()]),
             waits: Lent::copy(&vec![timed.wait; slaves]),
             registers: Lent::copy(&registers),
+            counts: Lent::zeros(4 * EXECUTED * slaves),
             cdm: Lent::copy(cdm),
             cds: Lent::zeros(cdm.len()),
             known: Vec::new(),
@@ -167,6 +169,7 @@ impl Run {
         smaller.rights.cut(bytes, usize::MAX);
         smaller.waits.cut(slaves, usize::MAX);
         smaller.registers.cut(bytes, usize::MAX);
+        smaller.counts.cut(4 * EXECUTED * slaves, usize::MAX);
         smaller
     }
 
@@ -187,7 +190,7 @@ impl Run {
 
     /// "Two runs with the same rights", banks and waits, "and master row that differ only
     /// in registers without the read right give the same answer row"; "in 01's two runs
-    /// the bank registers are equal".
+    /// the bank registers are equal". What stood in the counts does not matter.
     fn check_two_runs(&self, left: &Run, random: &mut Random) -> Result<(), String> {
         let mut other = self.clone();
         for (register, &right) in other.registers.iter_mut().zip(self.rights.iter()) {
@@ -198,14 +201,63 @@ impl Run {
         for (place, _) in bank_registers(&self.banks) {
             other.registers[place] = self.registers[place];
         }
+        other.counts.fill(random.next() as u8);
         other.call(&super::Model);
-        must(other.cds[..] == left.cds[..], "two runs give the same answers")
+        must(other.cds[..] == left.cds[..], "two runs give the same answers")?;
+        must(other.counts[..] == left.counts[..], "two runs give the same counts")
     }
 }
 
 /// The bytes that the registers, or the rights, of slaves with these banks have.
 fn bytes_of(banks: &[u8]) -> usize {
     banks.iter().map(|&banks| 64 + 64 * usize::from(banks)).sum()
+}
+
+/// A length that a table of counts must not have, by the number of slaves.
+type OtherCounts = (&'static str, fn(usize) -> usize);
+
+const OTHER_COUNTS: [OtherCounts; 8] = [
+    ("one count too many", |slaves| 4 * slaves + 1),
+    ("one count too few", |slaves| (4 * slaves).saturating_sub(1)),
+    ("no counts", |_| 0),
+    ("a count a slave", |slaves| slaves),
+    ("a slave too few", |slaves| 4 * slaves.saturating_sub(1)),
+    ("a slave too many", |slaves| 4 * slaves + 4),
+    ("four times too many", |slaves| 16 * slaves),
+    ("many counts", |slaves| 4 * slaves + TWO_16 / 4),
+];
+
+/// A table of counts for so many slaves, any numbers in it.
+fn counts(random: &mut Random, slaves: usize, is_other: bool, marks: &mut Marks) -> Lent {
+    let mut length = 4 * slaves;
+    if is_other {
+        let (mut mark, other) = random.pick(&OTHER_COUNTS);
+        length = other(slaves);
+        if length == 4 * slaves {
+            (mark, length) = ("one count too many", length + 1);
+        }
+        marks.push(mark);
+    }
+    Lent::copy(&random.bytes(EXECUTED * length))
+}
+
+/// 19, 2, 3, 4 and 18 as asked for.
+fn spoil_chain(random: &mut Random, chain: &mut Chain, provoked: &Provoked) {
+    if provoked.has(19) {
+        spoil_banks(random, chain);
+    }
+    if provoked.has(2) {
+        spoil_length(random, &mut chain.registers, 7);
+    }
+    if provoked.has(3) {
+        spoil_length(random, &mut chain.rights, 3);
+    }
+    if provoked.has(4) {
+        spoil_byte(random, &mut chain.rights, &[4, 5, 7, 8, 128, 255]);
+    }
+    if provoked.has(18) {
+        spoil_table(random, &mut chain.waits, 0);
+    }
 }
 
 /// Gives the table of banks a length or a number that it must not have; registers and

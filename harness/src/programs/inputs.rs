@@ -1,5 +1,6 @@
 //! What the indexing program is tried on: its inputs by name, and one from a seed.
 
+use super::preset;
 use crate::generate::texts::{each, recorded_text, IN_COLUMN, IN_HEADER};
 use crate::generate::Random;
 use model::{build_read, build_write, index, rows_to_text, run, Outcome::Made};
@@ -20,7 +21,7 @@ const LONG: usize = 20_000;
 /// of the second, of 16,396 bytes each, then one of the fourth.
 const LINES: [usize; 3] = [4_098, 4_099, 15_000];
 
-fn input(name: &str, opening: Option<usize>, stdin: Vec<u8>) -> Input {
+pub fn input(name: &str, opening: Option<usize>, stdin: Vec<u8>) -> Input {
     Input { name: name.to_string(), opening, stdin }
 }
 
@@ -98,6 +99,7 @@ pub fn named() -> Vec<Input> {
     let two_frames = [bench_row(14, 14), bench_row(14, 1)].concat();
     let mut inputs = vec![
         slow_memory(),
+        preset::recording(),
         input("the card's run, its last column off: no end", None, text(&bench_row(14, 0))),
         input("thirteen zeros before S: nobody is at rest", None, text(&bench_row(13, 14))),
         input("an empty input", None, Vec::new()),
@@ -169,10 +171,10 @@ fn text_of_slave(wait: u8, behind: u8, cdm: &[u8]) -> Vec<u8> {
 }
 
 /// A master row and the answers of slaves with all rights 3, as text.
-fn text_of_slaves(banks: &[u8], waits: &[u8], registers: &mut [u8], cdm: &[u8]) -> Vec<u8> {
+pub fn text_of_slaves(banks: &[u8], waits: &[u8], registers: &mut [u8], cdm: &[u8]) -> Vec<u8> {
     let rights = vec![3; registers.len()];
-    let mut cds = vec![0; cdm.len()];
-    let made = run(banks.len(), banks, &rights, waits, registers, cdm, &mut cds);
+    let (counts, mut cds) = (&mut vec![0; 4 * banks.len()], vec![0; cdm.len()]);
+    let made = run(banks.len(), banks, &rights, waits, registers, counts, cdm, &mut cds);
     assert_eq!(made, Made(cdm.len()));
     let mut text = vec![0; 8 + 4 * cdm.len()];
     assert_eq!(rows_to_text(cdm, &cds, &mut text), Made(text.len()));

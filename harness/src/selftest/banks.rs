@@ -79,7 +79,8 @@ impl Chain<'_> {
     fn lists(&self, card: &mut Card, what: &str, cdm: &[u8], wanted: &[&[Told]]) -> Vec<u8> {
         let (slaves, waits) = (self.banks.len(), vec![0; self.banks.len()]);
         let (mut left, mut cds) = (self.registers.clone(), vec![9; cdm.len()]);
-        let made = run(slaves, self.banks, &self.rights, &waits, &mut left, cdm, &mut cds);
+        let counts = &mut vec![0; 4 * slaves];
+        let made = run(slaves, self.banks, &self.rights, &waits, &mut left, counts, cdm, &mut cds);
         card.same(&format!("{what}: made"), made, Made(cdm.len()));
         let entries = list(cdm, &cds, 0);
         let account = account(self.banks, &self.rights, &waits, &self.registers, cdm);
@@ -255,7 +256,7 @@ fn opened_late(card: &mut Card) {
     let frames = [write(0, 64, &[1]), read(0, 5, 1), write(0, 64, &[0]), read(0, 5, 1)];
     let cdm = frames.concat();
     let mut cds = vec![0; cdm.len()];
-    run(1, &[2], &[3; 192], &[0], &mut [0; 192], &cdm, &mut cds);
+    run(1, &[2], &[3; 192], &[0], &mut [0; 192], &mut [0; 4], &cdm, &mut cds);
     let banks = |opening| -> Vec<u8> {
         let entries = list(&cdm, &cds, opening);
         entries.iter().filter(|e| e.kind == Kind::Read).map(|e| e.bank).collect()
@@ -295,8 +296,9 @@ fn conditions(card: &mut Card) {
 /// 19 stands after 1 and before 2; 2 and 3 go by the table.
 fn refused_runs(card: &mut Card) {
     let refusal = |slaves: usize, banks: &[u8], registers: usize, rights: usize| -> Outcome {
-        let waits = vec![0; slaves.min(20)];
-        run(slaves, banks, &vec![3; rights], &waits, &mut vec![0; registers], &[], &mut [])
+        let (waits, counts) = (vec![0; slaves.min(20)], &mut vec![0; 4 * slaves.min(20)]);
+        let (rights, registers) = (vec![3; rights], &mut vec![0; registers]);
+        run(slaves, banks, &rights, &waits, registers, counts, &[], &mut [])
     };
     card.same("1 and 8 banks", refusal(2, &[1, 8], 128 + 576, 128 + 576), Made(0));
     card.same("no slave", refusal(0, &[], 0, 0), Made(0));

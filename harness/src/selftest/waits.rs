@@ -52,7 +52,7 @@ fn one_slave(card: &mut Card, what: &str, wait: u8, cdm: &[u8], answers: &[u8], 
     registers[0x44..0x46].copy_from_slice(&[0x5A, 0x01]);
     let (before, waits) = (registers, [wait]);
     let mut cds = vec![9; cdm.len()];
-    run(1, &[1], &[3; 128], &waits, &mut registers, cdm, &mut cds);
+    run(1, &[1], &[3; 128], &waits, &mut registers, &mut [0; 4], cdm, &mut cds);
     card.same(&format!("{what}: answers"), &cds[..], answers);
     card.same(&format!("{what}: list"), &list(cdm, &cds, 0)[..], listed);
     let account = account(&[1], &[3; 128], &waits, &before, cdm);
@@ -146,7 +146,7 @@ fn each_its_own(card: &mut Card) {
         let mut cdm = [0; 32 + 14 + 2];
         build_read(id, 0x41, 1, 2, &mut cdm);
         let mut cds = [9; 32 + 14 + 2];
-        run(2, &[1, 1], &[3; 256], &[0, 2], &mut [0; 256], &cdm, &mut cds);
+        run(2, &[1, 1], &[3; 256], &[0, 2], &mut [0; 256], &mut [0; 8], &cdm, &mut cds);
         cds[32..].iter().position(|&bit| bit == 1)
     };
     card.same("ID 0 does not wait", first_s(0), Some(0));
@@ -158,7 +158,7 @@ fn refused_runs(card: &mut Card) {
     let refusal = |right: u8, waits: usize, columns: usize| {
         let (rights, cdm) = ([right; 128], vec![0; columns]);
         let mut cds = vec![0; columns];
-        run(1, &[1], &rights, &vec![0; waits], &mut [0; 128], &cdm, &mut cds)
+        run(1, &[1], &rights, &vec![0; waits], &mut [0; 128], &mut [0; 4], &cdm, &mut cds)
     };
     card.same("one wait", refusal(3, 1, 5), Made(5));
     for waits in [0, 2, 128, 257] {
@@ -166,8 +166,9 @@ fn refused_runs(card: &mut Card) {
     }
     card.same("4 before 18", refusal(4, 2, 5), Refused(4));
     card.same("18 before 5", refusal(3, 2, 4097), Refused(18));
-    card.same("no slave, no wait", run(0, &[], &[], &[], &mut [], &[], &mut []), Made(0));
-    card.same("no slave, one wait", run(0, &[], &[], &[0], &mut [], &[], &mut []), Refused(18));
+    let no_slave = |waits: &[u8]| run(0, &[], &[], waits, &mut [], &mut [], &[], &mut []);
+    card.same("no slave, no wait", no_slave(&[]), Made(0));
+    card.same("no slave, one wait", no_slave(&[0]), Refused(18));
 }
 
 /// 5 stands between 10 and 9.

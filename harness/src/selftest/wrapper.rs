@@ -4,7 +4,7 @@
 use super::Card;
 use crate::library::biss::{self, answer, Answer, Refusal};
 use model::entry::{ADDRESS, BANK, COLUMN, ENTRY_BYTES, ID, KIND, NO_BANK_YET, START, VALUE};
-use model::frame::BANK_REGISTER;
+use model::frame::{self, BANK_REGISTER, LAST_HEADER};
 use model::list::printed_at_most;
 use model::rows::{MOST_COLUMNS, ZEROS_TO_REST};
 
@@ -17,6 +17,8 @@ pub fn tried(card: &mut Card) {
     entries(card);
 }
 
+/// Fourteen zeros, S and the header.
+const COMMAND_HEADER: usize = ZEROS_TO_REST + 1 + LAST_HEADER as usize;
 const REFUSED: u64 = 1 << 63;
 const LINE: u64 = 512;
 const BYTE: u64 = 64;
@@ -65,12 +67,12 @@ fn codes(card: &mut Card) {
     card.same("its number and itself", (outside.number(), outside.job()), (20, Some(0)));
 }
 
-/// The wrapper has the words of the table in biss.h; 11 is given no more, 21 to 31 are not
+/// The wrapper has the words of the table in biss.h; 11 is given no more, 22 to 31 are not
 /// given yet.
 fn words(card: &mut Card) {
     for number in 1..=33 {
         let row = format!(" {number:>2}  {}", Refusal::Number(number));
-        let is_given = !matches!(number, 11 | 21..=31 | 33);
+        let is_given = !matches!(number, 11 | 22..=31 | 33);
         card.same(&row, BISS_H.contains(&row), is_given);
     }
 }
@@ -85,6 +87,8 @@ fn layout(card: &mut Card) {
     card.same("zeros before S", biss::REST, ZEROS_TO_REST);
     card.same("the bank register", biss::BANK_REGISTER, BANK_REGISTER);
     card.same("no bank yet", biss::NO_BANK_YET, NO_BANK_YET);
+    card.same("counts of a slave", biss::CMDS, frame::CODES);
+    card.same("columns of a command's header", biss::COMMAND_HEADER, COMMAND_HEADER);
     let named = [
         ("KIND", KIND),
         ("COLUMN", COLUMN.start),
@@ -97,6 +101,8 @@ fn layout(card: &mut Card) {
         ("REST", ZEROS_TO_REST),
         ("BANK_REGISTER", BANK_REGISTER.into()),
         ("NO_BANK_YET", NO_BANK_YET.into()),
+        ("CMDS", frame::CODES),
+        ("COMMAND_HEADER", COMMAND_HEADER),
         ("LIST_HEADER_BYTES", printed_at_most(0)),
         ("LIST_LINE_BYTES", line),
     ];
