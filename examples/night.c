@@ -10,10 +10,12 @@ enum { BANKS = 4, REGISTERS = 64 * (BANKS + 1), FRAME = 46, HOUR = 3 * FRAME, HO
 static void record(uint8_t *cdm, uint8_t *cds) {
     const uint8_t bank = 3, byte = 0x5B, banks = BANKS, wait = 0;
     uint8_t *registers = lent(REGISTERS, 0), *rights = lent(REGISTERS, 3);
+    uint32_t counts[BISS_CMDS];
     expect(biss_build_write(0, BISS_BANK_REGISTER, &bank, 1, 0, cdm, FRAME) == FRAME, "the choice is one frame");
     expect(biss_build_write(0, 0x10, &byte, 1, 0, cdm + FRAME, FRAME) == FRAME, "and so is the write");
     expect(biss_build_read(0, 0x10, 1, 0, cdm + 2 * FRAME, FRAME) == FRAME, "and the read");
-    uint64_t answered = biss_run(1, &banks, 1, rights, REGISTERS, &wait, 1, registers, REGISTERS, cdm, HOUR, cds, HOUR);
+    uint64_t answered =
+        biss_run(1, &banks, 1, rights, REGISTERS, &wait, 1, registers, REGISTERS, counts, BISS_CMDS, cdm, HOUR, cds, HOUR);
     expect(answered == HOUR, "the chain answers every column");
     for (size_t hour = 1; hour < HOURS; hour++) {
         memcpy(cdm + hour * HOUR, cdm, HOUR);

@@ -6,7 +6,7 @@
 #[allow(dead_code)]
 mod biss;
 mod print_list;
-use biss::{Job, Refusal, BANK_REGISTER, ENTRY_BYTES, NO_BANK_YET};
+use biss::{Job, Refusal, BANK_REGISTER, CMDS, ENTRY_BYTES, NO_BANK_YET};
 use print_list::print_list;
 
 const BANKS: usize = 4;
@@ -22,7 +22,9 @@ fn record() -> (Vec<u8>, Vec<u8>) {
     assert_eq!(biss::build_write(0, 0x10, &[0x5B], 0, &mut cdm[FRAME..]), Ok(FRAME));
     assert_eq!(biss::build_read(0, 0x10, 1, 0, &mut cdm[2 * FRAME..]), Ok(FRAME));
     let (banks, rights, mut registers) = ([BANKS as u8], [3; REGISTERS], [0; REGISTERS]);
-    assert_eq!(biss::run(1, &banks, &rights, &[0], &mut registers, &cdm, &mut cds), Ok(HOUR));
+    let counts = &mut [0; CMDS];
+    let answer = biss::run(1, &banks, &rights, &[0], &mut registers, counts, &cdm, &mut cds);
+    assert_eq!(answer, Ok(HOUR));
     (cdm.repeat(HOURS), cds.repeat(HOURS))
 }
 

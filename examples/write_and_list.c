@@ -53,17 +53,20 @@ static void carry_rows(const uint8_t *cdm, const uint8_t *cds, size_t columns) {
  * both: refusal 19. Nothing lent has changed. */
 static void refused_runs(const uint8_t *cdm, size_t columns, uint8_t *registers, uint8_t *rights) {
     uint8_t *cds = lent(columns, 7), *banks = lent(1, BANKS), *waits = lent(2, 0);
-    uint64_t answer = biss_run(1, banks, 1, rights, REGISTERS, waits, 2, registers, REGISTERS, cdm, columns, cds, columns);
+    uint32_t counts[BISS_CMDS] = {7, 7, 7, 7};
+    uint64_t answer =
+        biss_run(1, banks, 1, rights, REGISTERS, waits, 2, registers, REGISTERS, counts, BISS_CMDS, cdm, columns, cds, columns);
     expect(biss_is_refused(answer) && biss_refusal(answer) == 18, "two waits for one slave are refusal 18");
     printf("two waits for one slave: refusal %u\n", biss_refusal(answer));
     rights[REGISTERS - 1] = 4;
-    answer = biss_run(1, banks, 1, rights, REGISTERS, waits, 2, registers, REGISTERS, cdm, columns, cds, columns);
+    answer = biss_run(1, banks, 1, rights, REGISTERS, waits, 2, registers, REGISTERS, counts, BISS_CMDS, cdm, columns, cds, columns);
     expect(biss_is_refused(answer) && biss_refusal(answer) == 4, "a right above 3 is refusal 4");
     printf("a right above 3: refusal %u\n", biss_refusal(answer));
     banks[0] = 9;
-    answer = biss_run(1, banks, 1, rights, REGISTERS, waits, 2, registers, REGISTERS, cdm, columns, cds, columns);
+    answer = biss_run(1, banks, 1, rights, REGISTERS, waits, 2, registers, REGISTERS, counts, BISS_CMDS, cdm, columns, cds, columns);
     expect(biss_is_refused(answer) && biss_refusal(answer) == 19, "nine banks are refusal 19");
-    expect(cds[0] == 7 && cds[columns - 1] == 7 && registers[64 * 3 + 0x10] == 0x5B, "a refused call changes nothing");
+    expect(cds[0] == 7 && cds[columns - 1] == 7 && registers[64 * 3 + 0x10] == 0x5B && counts[0] == 7,
+           "a refused call changes nothing");
     printf("nine banks: refusal %u\n", biss_refusal(answer));
     free(cds), free(banks), free(waits);
 }
@@ -79,13 +82,16 @@ int main(void) {
     uint8_t *banks = lent(1, BANKS), *waits = lent(1, 0);
     expect(biss_build_write(0, BISS_BANK_REGISTER, &bank, 1, 0, cdm, choice) == choice, "the choice fits where it just fits");
     expect(biss_build_write(0, 0x10, &byte, 1, 0, cdm + choice, write) == write, "and so does the write behind it");
-    uint64_t answered = biss_run(1, banks, 1, rights, REGISTERS, waits, 1, registers, REGISTERS, cdm, columns, cds, columns);
+    uint32_t counts[BISS_CMDS] = {7, 7, 7, 7};
+    uint64_t answered =
+        biss_run(1, banks, 1, rights, REGISTERS, waits, 1, registers, REGISTERS, counts, BISS_CMDS, cdm, columns, cds, columns);
     expect(answered == columns, "the chain answers every column");
+    expect(counts[0] == 0 && counts[BISS_CMDS - 1] == 0, "and no command was executed");
     expect(registers[64 * 3 + 0x10] == 0x5B && registers[64 * BANKS] == 3, "bank 3 and the bank register hold what was written");
     list_both(cdm, cds, columns);
     carry_rows(cdm, cds, columns);
     refused_runs(cdm, columns, registers, rights);
-    answered = biss_run(0, NULL, 0, NULL, 0, NULL, 0, NULL, 0, cdm, columns, cds, columns);
+    answered = biss_run(0, NULL, 0, NULL, 0, NULL, 0, NULL, 0, NULL, 0, cdm, columns, cds, columns);
     expect(answered == columns, "a chain of no slaves is a chain");
     expect(biss_channel_of(0, 3) == 3 && biss_channel_of(2, 3) == 1, "the far slave of three has the third channel");
     expect(biss_channel_of(3, 3) == 0 && biss_refusal(biss_channel_of(8, 3)) == 10, "no slave has ID 3 there, and no chain ID 8");

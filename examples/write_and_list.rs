@@ -6,7 +6,7 @@
 #[allow(dead_code)]
 mod biss;
 mod print_list;
-use biss::{ChannelPlace, Entry, Refusal, BANK_REGISTER, ENTRY_BYTES, NO_BANK_YET, REST};
+use biss::{ChannelPlace, Entry, Refusal, BANK_REGISTER, CMDS, ENTRY_BYTES, NO_BANK_YET, REST};
 use print_list::print_list;
 
 /// The slave's banks, one after the other, and then its fixed registers.
@@ -22,8 +22,9 @@ fn main() {
         choice + biss::build_write(0, 0x10, &[0x5B], 0, behind).expect("the write is built");
     let cdm = &row[..columns];
     let (mut cds, mut registers, mut rights) = (vec![0; columns], [0; REGISTERS], [3; REGISTERS]);
-    let banks = [BANKS as u8];
-    assert_eq!(biss::run(1, &banks, &rights, &[0], &mut registers, cdm, &mut cds), Ok(columns));
+    let (banks, mut counts) = ([BANKS as u8], [7; CMDS]);
+    let answer = biss::run(1, &banks, &rights, &[0], &mut registers, &mut counts, cdm, &mut cds);
+    assert_eq!((answer, counts), (Ok(columns), [0; CMDS]));
     assert_eq!((registers[64 * 3 + 0x10], registers[64 * BANKS]), (0x5B, 3));
 
     let mut list = [0; 5 * ENTRY_BYTES];
@@ -57,15 +58,16 @@ fn main() {
     assert_eq!(biss::text_to_rows(&text, &mut cdm_back, &mut cds_back), Ok(columns));
     assert_eq!((cdm, &cds), (&cdm_back[..], &cds_back));
 
-    let refused = biss::run(1, &banks, &rights, &[0, 0], &mut registers, cdm, &mut cds);
-    assert_eq!(refused, Err(Refusal::Number(18)));
+    let mut refused = |banks: &[u8], rights: &[u8]| {
+        let (registers, counts, cds) = (&mut registers, &mut [0; CMDS], &mut cds);
+        biss::run(1, banks, rights, &[0, 0], registers, counts, cdm, cds)
+    };
+    assert_eq!(refused(&banks, &rights), Err(Refusal::Number(18)));
     println!("two waits for one slave: refusal 18");
     rights[REGISTERS - 1] = 4;
-    let refused = biss::run(1, &banks, &rights, &[0, 0], &mut registers, cdm, &mut cds);
-    assert_eq!(refused, Err(Refusal::Number(4)));
+    assert_eq!(refused(&banks, &rights), Err(Refusal::Number(4)));
     println!("a right above 3: refusal 4");
-    let refused = biss::run(1, &[9], &rights, &[0, 0], &mut registers, cdm, &mut cds);
-    assert_eq!(refused, Err(Refusal::Number(19)));
+    assert_eq!(refused(&[9], &rights), Err(Refusal::Number(19)));
     println!("nine banks: refusal 19");
 
     assert_eq!(biss::channel_of(0, 3), Ok(Some(ChannelPlace(3))));
