@@ -72,7 +72,7 @@ agrees told known known' [] n same = tt
 agrees told known known' (e ∷ es) n same = (
   refl,
   λ t. same_bank e.event _ _ (same e.event.id t),
-  agrees _ (learnt known e.event) (learnt known' e.event) es
+  agrees (told_after told e.event) (learnt known e.event) (learnt known' e.event) es
       (rw (length_learnt known e.event, length_learnt known' e.event) n)
       (same_learnt told known known' e.event n same),
 )

@@ -42,7 +42,7 @@ entries_append s p (col m x ∷ xs) ys =
 pub after_append : (s : Timed Phase) (xs ys : List Column) → after s (xs ++ ys) ≡ after (after s xs) ys
 unfolding after
 after_append s [] ys = refl
-after_append s (col m x ∷ xs) ys = after_append _ xs ys
+after_append s (col m x ∷ xs) ys = after_append (step s m x).state xs ys
 
 -- So many columns on, whatever they hold.
 pub columns_on : (s : Timed Phase) (p : Place) (cs : List Column) → (place_after s p cs).column ≡ p.column + length cs

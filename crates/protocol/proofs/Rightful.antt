@@ -221,6 +221,6 @@ unfolding BanksStand banked bank_of Rightful
 banks_stand told known ks [] n ps r s = tt
 banks_stand told known ks (e ∷ es) n ps r s = (
   λ named t. rw named (s e.event.id t),
-  banks_stand _ (learnt known e.event) (put ks e.event) es (length_learnt known e.event ∙ n) (paired_put ks e.event ps) r.1
+  banks_stand (told_after told e.event) (learnt known e.event) (put ks e.event) es (length_learnt known e.event ∙ n) (paired_put ks e.event ps) r.1
       (stands_on told known ks e.event n ps r.0 s),
 )

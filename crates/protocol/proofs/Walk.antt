@@ -64,8 +64,8 @@ pub walk_phases : (ks : List Memory) (q : Phase) (z : ℕ) (p : Place) (row : Li
     → walk ks (frame z q) p row ≡ timed (trailing z row) (phases ks q p row)
 unfolding walk phases calm trailing step judge timer
 walk_phases ks q z p [] h = refl
-walk_phases ks q z p (true ∷ row) h = ap (noted p (tell ks q true).says) (walk_phases _ _ 0 (onward (frame 0 q) p) row h)
+walk_phases ks q z p (true ∷ row) h = ap (noted p (tell ks q true).says) (walk_phases (kept ks (tell ks q true).says) (tell ks q true).next 0 (onward (frame 0 q) p) row h)
 walk_phases ks q z p (false ∷ row) h =
     tested (ltb (z + 1) rest_zeros)
-    (λ t. rw t (ap (noted p (tell ks q false).says) (walk_phases _ _ (z + 1) (onward (frame 0 q) p) row (rw t at h))))
+    (λ t. rw t (ap (noted p (tell ks q false).says) (walk_phases (kept ks (tell ks q false).says) (tell ks q false).next (z + 1) (onward (frame 0 q) p) row (rw t at h))))
     (λ t. absurd (false≢true (rw t at h)))
