@@ -1,5 +1,7 @@
 // Where a slave's process data stands. A slave's ID counts from the far end of the chain, its channel place from the master's: the
 // two are types of their own, and channel_of alone leads from one to the other.
+#![tactic(auto)]
+
 ghost use Rattle.std.specs.Prelude.{◌≡◌};
 ghost use Rattle.channels.specs.Channel.{channel_of};
 

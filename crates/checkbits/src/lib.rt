@@ -1,5 +1,7 @@
 // The check bits of the control line: of a header's eleven bits, from a table, and of a data byte's eight, divided bit by bit; words as
 // they are collected, and whether their check is right, a header's four bits at a time.
+#![tactic(auto)]
+
 mod table;
 
 ghost use Rattle.std.specs.Prelude.{◌≡◌, ◌<◌};

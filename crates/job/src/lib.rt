@@ -1,4 +1,6 @@
 // What the four jobs share: the longest row, how a job ends, and the tests of lent bytes.
+#![tactic(auto)]
+
 ghost use Rattle.std.specs.Prelude.{◌≡◌, true, not, ◌&&◌, ◌∷◌, [], leb};
 ghost use Rattle.std.proofs.Math.Option.{or_else};
 ghost use Rattle.job.specs.Refusals.{when, first, given};

@@ -1,4 +1,6 @@
 // The kinds of entries (01, Entries; Request 07), by the numbers of the table; 0 is none. They stand here and nowhere else in the code.
+#![tactic(auto)]
+
 ghost use Rattle.std.specs.Prelude.{◌≡◌};
 ghost use Rattle.kinds.specs.Kinds.{is_kind};
 

@@ -1,5 +1,7 @@
 // What the code of a slave and of the reader shares: the limits of a frame, each written once, the zeros in a row (01, Columns), and where a
 // command's columns lie and whom it names (000, BiSS Commands).
+#![tactic(auto)]
+
 ghost use Rattle.std.specs.Prelude.{◌≡◌, ◌&&◌, ◌≤◌, ◌<◌, ltb};
 ghost use Rattle.protocol.specs.Limits.{id_count, execute_addressed};
 ghost use Rattle.protocol.specs.Commands.{selects, execute_column};

@@ -1,0 +1,19 @@
+-- `job::none_above` meets its contract. The loop's invariant: what was found, with what is left of the bytes, decides what all of them
+-- decide. Assumes nothing.
+use mathlib.Core.Path.{◌≡◌, sym, ◌∙◌}
+use mathlib.Core.Bool.{◌&&◌}
+use Prim.Native.Nat.{◌≤◌, ◌-◌}
+use borrow.Author.Rules.{rules}
+use lib.ListN.{length, drop}
+use Rattle.job.specs.Bytes.{none_above}
+use Rattle.job.proofs.Bits.{one_byte, no_byte}
+use Rattle.job.proofs.none_above.Goals as goal
+
+pub loop-i-preserved : goal.loop-i-preserved
+loop-i-preserved c =
+    let l = c.loop-i in
+        (search rules, rw c.still-good.ensures (one_byte _ _ l.i l.good c.loop-i-test.true ∙ l.invariant.1))
+
+pub returns : goal.returns
+returns c = let l = c.loop-i in
+    sym (no_byte _ _ l.i l.good c.loop-i-test.false) ∙ l.invariant.1
