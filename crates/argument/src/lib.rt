@@ -7,7 +7,7 @@ const FARTHEST: usize = 4097;
 
 const HELP: usize = 6;
 
-#[derive(Drop)]
+#[derive(Clone, Copy)]
 pub enum Asked {
     // The list from this column on.
     Column(usize),

@@ -1,5 +1,7 @@
 // The job build: a master row for one request, fourteen zeros and one frame. Each call returns Made with the number of columns, or
 // Refused with 10, 5 or 9 and the lent row as it was.
+#![tactic(auto)]
+
 ghost use Rattle.std.specs.Prelude.{◌≡◌, true, map, ◌++◌, ◌+◌, ◌*◌, ◌^◌, ◌≤◌, ◌<◌, length, replicate};
 ghost use Rattle.std.proofs.lemmas.List.Edits.{sets};
 ghost use Rattle.protocol.specs.Bits.{num, bits};

@@ -11,14 +11,14 @@ const SLAVES: usize = 16;
 const LAST_ID: usize = 7;
 
 // From 0, the far slave.
-#[derive(Drop)]
+#[derive(Clone, Copy)]
 pub struct SlaveId(pub u8);
 
 // From 1, the slave next to the master.
-#[derive(Drop)]
+#[derive(Clone, Copy)]
 pub struct ChannelPlace(pub u8);
 
-#[derive(Drop)]
+#[derive(Clone, Copy)]
 pub enum Channel {
     Place(ChannelPlace),
     // The chain has no slave of that ID.

@@ -16,7 +16,7 @@ const HEADER: usize = 8;
 const LINE: usize = 4;
 
 // Text: "The text is walked by a cursor that holds the lent text and its place."
-#[derive(Drop)]
+#[derive(Clone, Copy)]
 pub struct Cursor<'a> {
     pub text: &'a [u8],
     pub at: usize,

@@ -19,14 +19,14 @@ const PIECE: usize = 16396;
 const PIECES: usize = 1099511627776;
 
 // What came of reading: so many bytes, fewer than were asked for only at the end of the input or where a read failed.
-#[derive(Drop)]
+#[derive(Clone, Copy)]
 struct Filled {
     count: usize,
     failed: bool,
 }
 
 // What a piece of a long text showed.
-#[derive(Drop)]
+#[derive(Clone, Copy)]
 enum Piece {
     // A full piece that keeps its form, and perhaps more behind it.
     More,

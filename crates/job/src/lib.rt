@@ -25,7 +25,7 @@ pub const VALUE: usize = BANK + 1;
 
 pub const ENTRY_BYTES: usize = VALUE + 1;
 
-#[derive(Drop)]
+#[derive(Clone, Copy)]
 pub enum Outcome {
     // So many columns, bytes or entries were made.
     Made(usize),
@@ -34,7 +34,7 @@ pub enum Outcome {
 }
 
 // What a refusal tells beside its number.
-#[derive(Drop)]
+#[derive(Clone, Copy)]
 pub enum Detail {
     // Nothing.
     Alone,

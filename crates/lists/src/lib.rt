@@ -1,4 +1,6 @@
 // The walk over a list's bytes, for every job that takes a list: whether the bytes are a list, and the entry at a place.
+#![tactic(auto)]
+
 ghost use Rattle.std.specs.Prelude.{◌≡◌, ◌+◌, ◌*◌, ◌≤◌, length};
 ghost use Rattle.protocol.specs.Layout.{current, entry_bytes, is_list};
 ghost use Rattle.lists.specs.Fields.{fields_at};
@@ -6,7 +8,7 @@ ghost use Rattle.lists.specs.Fields.{fields_at};
 use job::{ADDRESS, BANK, COLUMN, ENTRY_BYTES, ID, START, VALUE};
 
 // What stands in the fields of an entry.
-#[derive(Drop)]
+#[derive(Clone, Copy)]
 pub struct Fields {
     pub kind: u8,
     pub column: u16,

@@ -1,4 +1,6 @@
 // Printing into a lent buffer: bytes, and numbers in decimal. Each function lays its bytes at a place and returns the place behind them.
+#![tactic(auto)]
+
 ghost use Rattle.std.specs.Prelude.{◌≡◌, ◌∷◌, ◌+◌, ◌≤◌, length};
 ghost use Rattle.protocol.specs.Text.{tab, decimal};
 ghost use Rattle.print.specs.Laid.{Laid};

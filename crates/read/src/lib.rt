@@ -26,14 +26,14 @@ const IDS: usize = machine::IDS as usize;
 const NO_BANK: u8 = 255;
 
 // Where in the row an entry stands: its column, and that of its frame's S.
-#[derive(Drop)]
+#[derive(Clone, Copy)]
 struct Place {
     column: usize,
     start: usize,
 }
 
 // A reading under way: the reader, the next column, of each ID the bank that the list has shown so far, and how many entries there were.
-#[derive(Drop)]
+#[derive(Clone, Copy)]
 struct Reading {
     reader: Reader,
     column: usize,

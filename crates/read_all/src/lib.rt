@@ -13,7 +13,7 @@ use job::{Detail, ENTRY_BYTES, Outcome};
 
 // "its first column, length and opening column": the first of the recording's columns, the other counted from there.
 #[repr(C)]
-#[derive(Drop)]
+#[derive(Clone, Copy)]
 pub struct Job {
     pub first: usize,
     pub length: usize,
@@ -33,7 +33,7 @@ const DONE: u8 = 0;
 
 // How far a call has come: the pass, the job that it asks next, how many entries the jobs before it have in this pass, whether there is
 // less room than columns, and how the call ends.
-#[derive(Drop)]
+#[derive(Clone, Copy)]
 pub struct Intake {
     pub pass: u8,
     pub at: usize,

@@ -18,7 +18,7 @@ use machine::REST;
 use made::{go, rests};
 
 // The order is for the compiler: with Rest near Ones it adds S to one byte of a register, and on idle rows each column waits for the last.
-#[derive(Drop)]
+#[derive(Clone, Copy)]
 pub enum Phase {
     Deaf,
     // Up to the last lock column: ones alone so far, ones and then zeros, any other pattern.
@@ -42,7 +42,7 @@ pub enum Phase {
 }
 
 // Every field is 64 bits wide, a flag 0 or 1, so that each keeps a register of its own.
-#[derive(Drop)]
+#[derive(Clone, Copy)]
 pub struct Body {
     // The column of S, from S on.
     pub start: usize,
@@ -63,7 +63,7 @@ pub struct Body {
     pub answered: u64,
 }
 
-#[derive(Drop)]
+#[derive(Clone, Copy)]
 pub struct Reader {
     pub phase: Phase,
     // The zeros in a row just now.
@@ -72,7 +72,7 @@ pub struct Reader {
 }
 
 // What a column shows; kind 0 is nothing.
-#[derive(Drop)]
+#[derive(Clone, Copy)]
 pub struct Event {
     pub kind: u64,
     pub id: u64,
@@ -80,7 +80,7 @@ pub struct Event {
     pub value: u64,
 }
 
-#[derive(Drop)]
+#[derive(Clone, Copy)]
 pub struct Stepped {
     pub next: Reader,
     pub event: Event,

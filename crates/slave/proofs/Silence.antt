@@ -1,11 +1,9 @@
 -- A slave with nothing to say: a column only counts for it, and it passes on the bit that it sees. Assumes nothing.
 use mathlib.Core.Path.{◌≡◌, refl}
+use Rattle.std.specs.Prelude.{◌≢◌}
 use mathlib.Core.Bool.{Bool, true, false, cond, false≢true}
-use mathlib.Core.List.{List, [], ◌∷◌}
 use mathlib.Core.Option.{Option, none, some}
 use Prim.Native.Nat.{ℕ}
-use denote.Enum.Declared.{tag_of}
-use types.Run.{OneOf, miss}
 use Rattle.protocol.specs.Rest.{Timed, power, rest, frame, waiting, running, timer, judge}
 use Rattle.protocol.specs.Memory.{Memory}
 use Rattle.protocol.specs.Slave as protocol
@@ -18,7 +16,6 @@ use Rattle.slave.specs.declared.Phase.{Phase}
 use Rattle.slave.specs.declared.Phase.TheVariants.{Power, Rest, Deaf, Locks, Head, AskR, AskW, ByteS, Sends, Takes, AskP}
 use Rattle.slave.specs.declared.Phase.TheVariants.{Acknowledge, AskEX}
 use Rattle.slave.specs.declared.Body.{Body}
-use Rattle.slave.specs.contracts.Phase.{the_type}
 
 -- The states in which it has nothing to say: power-on, rest, deaf.
 pub passes_on : (k : Memory) (s : Timed protocol.Phase) (m b : Bool) → says_nothing s ≡ true → protocol.step (protocol.slave k s) m b ≡ step_to k (heard_by s m) b
@@ -38,24 +35,22 @@ passes_on k (frame z (ask_p write good address nth)) m b e = absurd (false≢tru
 passes_on k (frame z (acknowledge column ids cmd number)) m b e = absurd (false≢true e)
 passes_on k (frame z (ask_ex cmd concerned)) m b e = absurd (false≢true e)
 
--- The other phases, by their places: each may speak.
-abbrev speakers : List ℕ
-speakers = 3 ∷ 4 ∷ 5 ∷ 6 ∷ 7 ∷ 8 ∷ 9 ∷ 10 ∷ 11 ∷ 12 ∷ []
-
-pub may_speak : (phase : Phase) (z : ℕ) (b : Body) → OneOf speakers (tag_of the_type phase) → false ≡ says_nothing (state_by phase z b)
-may_speak Power z b h = absurd (miss speakers 0 tt h)
-may_speak Rest z b h = absurd (miss speakers 1 tt h)
-may_speak Deaf z b h = absurd (miss speakers 2 tt h)
-may_speak Locks z b h = refl
-may_speak Head z b h = refl
-may_speak AskR z b h = refl
-may_speak AskW z b h = refl
-may_speak ByteS z b h = refl
-may_speak Sends z b h = refl
-may_speak Takes z b h = refl
-may_speak AskP z b h = refl
-may_speak Acknowledge z b h = refl
-may_speak AskEX z b h = refl
+-- The other phases: each may speak.
+pub may_speak : (phase : Phase) (z : ℕ) (b : Body) → phase ≢ Power → phase ≢ Rest → phase ≢ Deaf
+    → false ≡ says_nothing (state_by phase z b)
+may_speak Power z b p r d = absurd (p refl)
+may_speak Rest z b p r d = absurd (r refl)
+may_speak Deaf z b p r d = absurd (d refl)
+may_speak Locks z b p r d = refl
+may_speak Head z b p r d = refl
+may_speak AskR z b p r d = refl
+may_speak AskW z b p r d = refl
+may_speak ByteS z b p r d = refl
+may_speak Sends z b p r d = refl
+may_speak Takes z b p r d = refl
+may_speak AskP z b p r d = refl
+may_speak Acknowledge z b p r d = refl
+may_speak AskEX z b p r d = refl
 
 -- What it hears at rest ..
 pub rest_hears : (m : Bool) → cond m (frame 0 protocol.begun) rest ≡ heard_by rest m
@@ -72,15 +67,11 @@ frame_waits : (z : ℕ) (p : protocol.Phase) (z' : Option ℕ) → waited_by z' 
 frame_waits z p none = refl
 frame_waits z p (some z') = refl
 
--- The phases but Rest, by their places.
-abbrev others : List ℕ
-others = 0 ∷ 2 ∷ 3 ∷ 4 ∷ 5 ∷ 6 ∷ 7 ∷ 8 ∷ 9 ∷ 10 ∷ 11 ∷ 12 ∷ []
-
-pub other_hears : (phase : Phase) (z : ℕ) (b : Body) (m : Bool) → OneOf others (tag_of the_type phase)
+pub other_hears : (phase : Phase) (z : ℕ) (b : Body) (m : Bool) → phase ≢ Rest
     → waited_by (timer z m) (state_by phase z b) ≡ heard_by (state_by phase z b) m
 unfolding heard_by judge
 other_hears Power z b m h = power_waits z (timer z m)
-other_hears Rest z b m h = absurd (miss others 1 tt h)
+other_hears Rest z b m h = absurd (h refl)
 other_hears Deaf z b m h = frame_waits z _ (timer z m)
 other_hears Locks z b m h = frame_waits z _ (timer z m)
 other_hears Head z b m h = frame_waits z _ (timer z m)

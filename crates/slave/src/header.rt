@@ -7,7 +7,7 @@ use crate::{Body, Phase, Seen, Turn};
 use machine::{ADDRESSES, CHECKS, COMMAND_S, CTS, HEADER, IDS, LOCK_FIRST, LOCK_LAST};
 
 // What a lock column makes of it: the number that it holds then, and the bit that it sends.
-#[derive(Drop)]
+#[derive(Clone, Copy)]
 struct Lock {
     number: u64,
     sent: bool,

@@ -1,4 +1,6 @@
 // One slave of the chain: a column in; its next state, the bit that it sends, the byte at its address and the code that it executes out.
+#![tactic(auto)]
+
 mod access;
 mod command;
 mod data;
@@ -19,7 +21,7 @@ use machine::{ADDRESSES, REST};
 use made::{NONE, said};
 
 // What a slave is about. After S the names are those of the column that it waits for.
-#[derive(Drop)]
+#[derive(Clone, Copy)]
 pub enum Phase {
     Power,
     Rest,
@@ -38,7 +40,7 @@ pub enum Phase {
 
 // The numbers of all phases side by side; each phase looks at its own. In AskW `write` holds R, in ByteS `word` counts the S that were not
 // confirmed, in AskP `address` is the next one; behind a command's header `word` is the header's, and `column` counts from its S.
-#[derive(Drop)]
+#[derive(Clone, Copy)]
 pub struct Body {
     pub column: u64,
     pub word: u64,
@@ -50,7 +52,7 @@ pub struct Body {
     pub good: bool,
 }
 
-#[derive(Drop)]
+#[derive(Clone, Copy)]
 pub struct Slave {
     pub phase: Phase,
     pub zeros: u64,
@@ -58,7 +60,7 @@ pub struct Slave {
 }
 
 // What a slave sees in a column: the master's bit, its far neighbour's bit, the right and the byte at its address, and its waiting number.
-#[derive(Drop)]
+#[derive(Clone, Copy)]
 pub struct Seen {
     pub master: bool,
     pub far: bool,
@@ -69,7 +71,7 @@ pub struct Seen {
 
 // What a column makes of it; `byte` stands at its address from now on. `ran` is the code of the command that is executed for it in this
 // column, and the number of codes, 4, where none is.
-#[derive(Drop)]
+#[derive(Clone, Copy)]
 pub struct Turn {
     pub next: Slave,
     pub sent: bool,

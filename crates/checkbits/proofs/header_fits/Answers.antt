@@ -11,5 +11,5 @@ pub returns : goal.returns
 unfolding fits check remainder
 returns c =
     let word = c.args.word in
-        rw (c.four.ensures.0, c.four-middle.ensures.0, c.four-high.ensures.0)
+    rw (c.four.ensures.0, c.four-middle.ensures.0, c.four-high.ensures.0)
     (ap (λ (r : ℕ). eqb (word % 16) (15 - r)) (three_fours (word / 16)))

@@ -1,0 +1,19 @@
+-- `build::put_bits` meets its contract. The loop's invariant: the bits that are left, laid on the buffer of now, are all the bits laid on
+-- the first buffer. Assumes nothing.
+use mathlib.Core.List.{map}
+use mathlib.Core.Path.{◌≡◌, ◌∙◌}
+use Prim.Native.Nat.{◌+◌, ◌≤◌}
+use borrow.Author.Rules.{rules}
+use lib.ListN.{length, length-set}
+use lib.Seq.{sets}
+use Rattle.build.proofs.Columns.{bit_laid}
+use Rattle.protocol.specs.Bits.{num, bits}
+use Rattle.build.proofs.put_bits.Given as goal
+
+abbrev pub invariant-loop-left : goal.invariant-loop-left
+invariant-loop-left l =
+    (l.left ≤ l.n) × (l.p + l.left ≡ l.at + l.n) × (length l.out ≡ length l.initial.out)
+    × (sets l.out l.p (map num (bits l.left l.w)) ≡ sets l.initial.out l.at (map num (bits l.n l.w)))
+
+abbrev pub decreases-loop-left : goal.decreases-loop-left
+decreases-loop-left l = l.left

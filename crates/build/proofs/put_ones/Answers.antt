@@ -1,0 +1,27 @@
+-- `build::put_ones` meets its contract. The loop's invariant: the ones that are left, laid on the buffer of now, are all of them laid on
+-- the first buffer. Assumes nothing.
+use mathlib.Core.Bool.{true}
+use mathlib.Core.List.{map}
+use mathlib.Core.Path.{◌≡◌, ◌∙◌}
+use Prim.Native.Nat.{◌+◌, ◌≤◌}
+use borrow.Author.Rules.{rules}
+use lib.ListN.{length, length-set, replicate}
+use lib.Seq.{sets}
+use Rattle.build.proofs.Columns.{one_laid}
+use Rattle.protocol.specs.Bits.{num}
+use Rattle.build.proofs.put_ones.Goals as goal
+
+pub loop-left-preserved : goal.loop-left-preserved
+loop-left-preserved c =
+    let l = c.loop-left in (
+      search rules,
+      search rules,
+      rw length-set l.invariant.2,
+      one_laid l.out l.p l.left c.loop-left-test.true ∙ l.invariant.3,
+    )
+
+pub shape_of-out : goal.shape_of-out
+shape_of-out c = c.loop-left.invariant.2
+
+pub returns : goal.returns
+returns c = let l = c.loop-left in let none : l.left ≡ 0 = search rules in (search rules, rw none at l.invariant.3)

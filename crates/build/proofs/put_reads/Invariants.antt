@@ -1,0 +1,17 @@
+-- `build::put_reads` meets its contract. The loop's invariant: the bytes that are left, laid on the buffer of now, are all the bytes
+-- laid on the first buffer. Assumes nothing.
+use mathlib.Core.Bool.{false}
+use mathlib.Core.Path.{refl}
+use Prim.Native.Nat.{◌-◌, ◌≤◌}
+use borrow.Author.Rules.{rules}
+use lib.ListN.{length-replicate, replicate}
+use Rattle.protocol.specs.Memory.{delay_by}
+use Rattle.protocol.specs.Building.{read_bits}
+use Rattle.build.proofs.Rows.{Laying, read_next, none_laid, byte_room, byte_laid, all_laid}
+use Rattle.build.proofs.put_reads.Given as goal
+
+abbrev pub invariant-loop-i : goal.invariant-loop-i
+invariant-loop-i l = (l.i ≤ l.count) × Laying false l.wait (replicate l.count read_bits) l.at l.initial.out l.i l.p l.out
+
+abbrev pub decreases-loop-i : goal.decreases-loop-i
+decreases-loop-i l = l.count - l.i

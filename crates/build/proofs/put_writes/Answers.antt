@@ -1,0 +1,45 @@
+-- `build::put_writes` meets its contract. The loop's invariant: the bytes that are left, laid on the buffer of now, are all the bytes
+-- laid on the first buffer, and `delay` is how often the next one waits. Assumes nothing.
+use mathlib.Core.Bool.{true}
+use mathlib.Core.List.{map}
+use mathlib.Core.Path.{◌≡◌, refl, sym}
+use Prim.Native.Nat.{◌+◌, ◌-◌, ◌≤◌}
+use native.Mathlib.Omega.{arith}
+use borrow.Author.Rules.{rules}
+use lib.ListN.{length, length-map}
+use Rattle.protocol.specs.Memory.{delay_by}
+use Rattle.protocol.specs.Building.{write_bits}
+use Rattle.build.proofs.Rows.{Laying, later, write_next, none_laid, byte_room, byte_laid, all_laid}
+use Rattle.build.proofs.put_writes.Goals as goal
+
+pub loop-i-init : goal.loop-i-init
+unfolding delay_by
+loop-i-init c = (search rules, refl, none_laid _ _ _ _ _)
+
+pub put_byte-p-requires : goal.put_byte-p-requires
+put_byte-p-requires c =
+    let known = c.shared_slice_known-in-loop-i-1.given in
+    let l = c.loop-i in
+    let bytes = c.args.bytes.now in
+    byte_room _ _ (map write_bits bytes) _ _ l.invariant.2 l.invariant.1
+    (write_next bytes l.i c.loop-i-test.true (omega (arith, known l.i)) c.written.ensures)
+    c.requires
+
+pub loop-i-preserved : goal.loop-i-preserved
+loop-i-preserved c =
+    let put = c.put_byte-p in
+    let made = c.written in
+    let known = c.shared_slice_known-in-loop-i-1.given in
+    let l = c.loop-i in
+    let bytes = c.args.bytes.now in (
+      search rules,
+      sym (later true _ l.i),
+      byte_laid _ _ (map write_bits bytes) _ _ l.invariant.2 l.invariant.1
+          (write_next bytes l.i c.loop-i-test.true (omega (arith, known l.i)) made.ensures) put.ensures,
+    )
+
+pub shape_of-out : goal.shape_of-out
+shape_of-out c = c.loop-i.invariant.2.long
+
+pub returns : goal.returns
+returns c = all_laid _ _ _ _ _ c.loop-i.invariant.2 (rw length-map c.loop-i-test.false)

@@ -1,0 +1,20 @@
+-- `build::put_writes` meets its contract. The loop's invariant: the bytes that are left, laid on the buffer of now, are all the bytes
+-- laid on the first buffer, and `delay` is how often the next one waits. Assumes nothing.
+use mathlib.Core.Bool.{true}
+use mathlib.Core.List.{map}
+use mathlib.Core.Path.{◌≡◌, refl, sym}
+use Prim.Native.Nat.{◌+◌, ◌-◌, ◌≤◌}
+use native.Mathlib.Omega.{arith}
+use borrow.Author.Rules.{rules}
+use lib.ListN.{length, length-map}
+use Rattle.protocol.specs.Memory.{delay_by}
+use Rattle.protocol.specs.Building.{write_bits}
+use Rattle.build.proofs.Rows.{Laying, later, write_next, none_laid, byte_room, byte_laid, all_laid}
+use Rattle.build.proofs.put_writes.Given as goal
+
+abbrev pub invariant-loop-i : goal.invariant-loop-i
+invariant-loop-i l =
+    (l.i ≤ length l.bytes) × (l.delay ≡ delay_by l.wait true (l.i + 1)) × Laying true l.wait (map write_bits l.bytes) l.at l.initial.out l.i l.p l.out
+
+abbrev pub decreases-loop-i : goal.decreases-loop-i
+decreases-loop-i l = length l.bytes - l.i

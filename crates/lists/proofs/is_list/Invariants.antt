@@ -1,0 +1,15 @@
+-- `lists::is_list` meets its contract. The loop's invariant: the entries that are left decide what all of them decide. Assumes nothing.
+use mathlib.Core.Path.{◌≡◌, sym, ◌∙◌}
+use Prim.Native.Nat.{◌-◌, ◌≤◌}
+use borrow.Author.Rules.{rules}
+use lib.ListN.{length, drop}
+use Rattle.protocol.specs.Layout.{current, is_list}
+use Rattle.protocol.proofs.Codec.{list_none}
+use Rattle.lists.proofs.Walk.{good_kind, bad_kind}
+use Rattle.lists.proofs.is_list.Given as goal
+
+abbrev pub invariant-loop-i : goal.invariant-loop-i
+invariant-loop-i l = (l.i ≤ length l.list) × (is_list current (drop l.i l.list) ≡ is_list current l.list)
+
+abbrev pub decreases-loop-i : goal.decreases-loop-i
+decreases-loop-i l = length l.list - l.i

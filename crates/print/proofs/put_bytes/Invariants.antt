@@ -1,0 +1,16 @@
+-- `print::put_bytes` meets its contract. The loop's invariant: the bytes that are left, laid on the buffer of now, are all the bytes laid
+-- on the first buffer. Assumes nothing.
+use mathlib.Core.Path.{◌≡◌, sym, ◌∙◌}
+use Prim.Native.Nat.{◌+◌, ◌-◌, ◌≤◌}
+use borrow.Author.Rules.{rules}
+use lib.ListN.{length, length-set, drop}
+use lib.Seq.{sets}
+use Rattle.print.proofs.Laid.{byte_laid, none_laid}
+use Rattle.print.proofs.put_bytes.Given as goal
+
+abbrev pub invariant-loop-j : goal.invariant-loop-j
+invariant-loop-j l =
+    (l.j ≤ length l.bytes) × (l.p ≡ l.at + l.j) × (length l.out ≡ length l.initial.out) × (sets l.out l.p (drop l.j l.bytes) ≡ sets l.initial.out l.at l.bytes)
+
+abbrev pub decreases-loop-j : goal.decreases-loop-j
+decreases-loop-j l = length l.bytes - l.j
