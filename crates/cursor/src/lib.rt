@@ -1,5 +1,7 @@
 // The line walk: where a text of rows leaves its form, from a place of a lent text on, or of a piece that begins anywhere in its text; and
 // what is told of such a place: number, line and byte.
+#![tactic(auto)]
+
 ghost use Rattle.std.specs.Prelude.{◌≡◌, map, ◌∷◌, [], ◌+◌, ◌≤◌, ◌<◌, length, drop};
 ghost use Rattle.protocol.specs.Text.{Form, has, lacking, column_form, begins};
 ghost use Rattle.protocol.specs.Fault.{line_at, byte_at, form_at, stop, end_number, fault_number};

@@ -1,4 +1,6 @@
 // The table of kinds (01, Entries; Request 07): their names, and the fields that they name.
+#![tactic(auto)]
+
 ghost use Rattle.std.specs.Prelude.{◌≡◌, true, ◌+◌, ◌≤◌, ◌<◌, length};
 ghost use Rattle.kinds.specs.Kinds.{is_kind};
 ghost use Rattle.print.specs.Laid.{Laid};

@@ -3,8 +3,7 @@ use mathlib.Core.Path.{◌≡◌, refl, ap}
 use mathlib.Core.Bool.{Bool}
 use mathlib.Core.List.{List, [], ◌∷◌}
 use Prim.Native.Nat.{ℕ, suc, ◌≤◌, ◌<◌}
-use denote.Enum.Declared.{tag_of}
-use types.Run.{OneOf, miss}
+use Rattle.std.specs.Prelude.{◌≢◌}
 use Rattle.protocol.specs.Limits.{rest_zeros}
 use Rattle.protocol.specs.Rest.{Timed, power, rest, frame, still}
 use Rattle.protocol.specs.Machine.{Turn}
@@ -20,7 +19,6 @@ use Rattle.reader.specs.declared.Body.{Body}
 use Rattle.reader.specs.declared.Reader.{Reader}
 use Rattle.reader.specs.declared.Event.{Event}
 use Rattle.reader.specs.declared.Stepped.{Stepped}
-use Rattle.reader.specs.contracts.Phase.{the_type}
 
 module _ {phase : Phase} {zeros : ℕ} {b : Body} {m x : Bool} {phase' : Phase} {b' : Body} {r : Stepped} where
   -- A column that means nothing to a phase.
@@ -53,26 +51,23 @@ ends_so (power z) p m x = refl
 ends_so rest p m x = refl
 ends_so (frame z q) p m x = refl
 
--- The phases of a frame, by their places: for each the fourteenth zero gives an event.
-abbrev begun_phases : List ℕ
-begun_phases = 0 ∷ 1 ∷ 2 ∷ 3 ∷ 4 ∷ 5 ∷ 6 ∷ 7 ∷ 8 ∷ 9 ∷ 10 ∷ 13 ∷ 14 ∷ []
-
-pub begun_ends : (phase : Phase) (b : Body) → OneOf begun_phases (tag_of the_type phase) → ended (form_by phase b) ≡ ending
-begun_ends Deaf b h = refl
-begun_ends Ones b h = refl
-begun_ends Upto b h = refl
-begun_ends Mixed b h = refl
-begun_ends Head b h = refl
-begun_ends AskR b h = refl
-begun_ends AskW b h = refl
-begun_ends ByteS b h = refl
-begun_ends Reads b h = refl
-begun_ends Writes b h = refl
-begun_ends AskP b h = refl
-begun_ends Power b h = absurd (miss begun_phases 11 tt h)
-begun_ends Rest b h = absurd (miss begun_phases 12 tt h)
-begun_ends Acknowledge b h = refl
-begun_ends AskEX b h = refl
+-- The phases of a frame: for each the fourteenth zero gives an event.
+pub begun_ends : (phase : Phase) (b : Body) → phase ≢ Power → phase ≢ Rest → ended (form_by phase b) ≡ ending
+begun_ends Deaf b h g = refl
+begun_ends Ones b h g = refl
+begun_ends Upto b h g = refl
+begun_ends Mixed b h g = refl
+begun_ends Head b h g = refl
+begun_ends AskR b h g = refl
+begun_ends AskW b h g = refl
+begun_ends ByteS b h g = refl
+begun_ends Reads b h g = refl
+begun_ends Writes b h g = refl
+begun_ends AskP b h g = refl
+begun_ends Power b h g = absurd (h refl)
+begun_ends Rest b h g = absurd (g refl)
+begun_ends Acknowledge b h g = refl
+begun_ends AskEX b h g = refl
 
 -- A column by the zeros counted.
 module _ (s : Reader) (column : ℕ) (m x : Bool) (r : Stepped) {z' : ℕ} (e : z' ≡ zeros_after s.zeros m) where

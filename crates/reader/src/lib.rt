@@ -1,5 +1,7 @@
 // The reader's step (01, Entries): one column in, the next state and perhaps an event out. Phase and Body say where in a frame the
 // reader is; what a field holds in a phase that does not use it never matters.
+#![tactic(auto)]
+
 mod access;
 mod command;
 mod data;

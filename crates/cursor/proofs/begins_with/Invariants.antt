@@ -1,0 +1,17 @@
+-- `cursor::begins_with` meets its contract. The loop's invariant: the bytes that are left of the line decide what all of them decide.
+-- Assumes nothing.
+use mathlib.Core.List.{map}
+use mathlib.Core.Path.{◌≡◌, sym, ◌∙◌}
+use Prim.Native.Nat.{◌-◌, ◌≤◌}
+use borrow.Author.Rules.{rules}
+use lib.ListN.{length, drop}
+use Rattle.cursor.proofs.Lines.{byte_differs, byte_same, no_byte, too_short}
+use Rattle.protocol.specs.Text.{exactly, begins}
+use Rattle.cursor.proofs.begins_with.Given as goal
+
+abbrev pub invariant-loop-j : goal.invariant-loop-j
+invariant-loop-j l =
+    (l.j ≤ length l.line) × (begins (map exactly (drop l.j l.line)) (drop l.j l.text) ≡ begins (map exactly l.line) l.text)
+
+abbrev pub decreases-loop-j : goal.decreases-loop-j
+decreases-loop-j l = length l.line - l.j

@@ -1,0 +1,14 @@
+-- `cursor::walk` meets its contract. The loop's invariant: what is left has the stop of all. Assumes nothing.
+use mathlib.Core.Path.{◌≡◌, sym, ◌∙◌}
+use Prim.Native.Nat.{◌+◌, ◌-◌, ◌≤◌}
+use borrow.Author.Rules.{rules}
+use lib.ListN.{length, drop}
+use Rattle.cursor.proofs.Lines.{byte_formed, byte_stops, end_stops}
+use Rattle.protocol.specs.Fault.{stop}
+use Rattle.cursor.proofs.walk.Given as goal
+
+abbrev pub invariant-loop-p : goal.invariant-loop-p
+invariant-loop-p l = (l.p ≤ length l.piece) × (stop (l.p + l.before) (drop l.p l.piece) ≡ stop l.before l.piece)
+
+abbrev pub decreases-loop-p : goal.decreases-loop-p
+decreases-loop-p l = length l.piece - l.p
