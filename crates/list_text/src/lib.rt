@@ -1,5 +1,7 @@
 // A list to text (01, Text): the header, "then one entry a line, decimal, the kind by name, `-` for a field the kind doesn't name". It
 // returns Made with the number of bytes, or Refused with 12 or 9 and the lent buffer as it was.
+#![tactic(auto)]
+
 ghost use Rattle.std.specs.Prelude.{◌≡◌, true, ◌+◌, ◌≤◌, ltb, length};
 ghost use Rattle.protocol.specs.Layout.{current, entries_in, is_list};
 ghost use Rattle.protocol.specs.Text.{field, entry_line, entry_lines};

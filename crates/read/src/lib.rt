@@ -1,5 +1,7 @@
 // The job read: two recorded rows and an opening column in, the list of entries that they show out, each with its bank (Request 05). It
 // returns Made with the number of entries, or Refused with 5 to 9 and the lent buffer as it was.
+#![tactic(auto)]
+
 ghost use Rattle.std.specs.Prelude.{◌≡◌, true, ◌+◌, ◌^◌, ◌≤◌, ◌<◌, leb, length, get_or, set};
 ghost use Rattle.std.proofs.lemmas.List.Edits.{sets};
 ghost use Rattle.protocol.specs.Limits.{column_limit};

@@ -1,5 +1,7 @@
 // The job carry, for rows: rows to text and text to rows; for a list it is list_text::list_to_text. Each call returns what it made, or
 // refuses with a number of paper 01 and leaves every lent byte as it was.
+#![tactic(auto)]
+
 ghost use Rattle.std.specs.Prelude.{◌≡◌, true, ◌+◌, ◌*◌, ◌≤◌, length};
 ghost use Rattle.std.proofs.lemmas.List.Edits.{sets};
 ghost use Rattle.protocol.specs.Text.{column_line, column_lines, cdm_of, cds_of};

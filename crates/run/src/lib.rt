@@ -1,5 +1,7 @@
 // The job run: a chain of 0 to 16 slaves, each of 1 to 8 banks, over a master row. It returns Made with the number of columns, or Refused
 // with 1 to 7, 18, 19 or 21 and every lent byte and count as it was.
+#![tactic(auto)]
+
 ghost use Rattle.std.specs.Prelude.{◌≡◌, ◌≤◌, ◌<◌, length, replicate, get_or, set};
 ghost use Rattle.protocol.specs.Limits.{column_limit, slave_limit, address_count, command_count};
 ghost use Rattle.protocol.specs.Memory.{uncounted};

@@ -1,0 +1,19 @@
+-- `list_text::put_lines` meets its contract. The loop's invariant: the lines that are left, laid on the buffer of now, are all the lines
+-- laid on the first buffer. Assumes nothing.
+use mathlib.Core.Bool.{true}
+use mathlib.Core.Path.{◌≡◌}
+use Prim.Native.Nat.{◌-◌, ◌≤◌}
+use borrow.Author.Rules.{rules}
+use lib.ListN.{length, drop}
+use Rattle.protocol.specs.Layout.{current, is_list}
+use Rattle.lists.proofs.Walk.{kind_here, list_behind}
+use Rattle.list_text.proofs.Parts.{Left, left_all, left_same, left_none}
+use Rattle.list_text.proofs.Lists.{lines_from, line_room, line_behind, line_none}
+use Rattle.list_text.proofs.put_lines.Given as goal
+
+abbrev pub invariant-loop-i : goal.invariant-loop-i
+invariant-loop-i l =
+    (l.i ≤ length l.list) × (is_list current (drop l.i l.list) ≡ true) × Left (lines_from l.list 0) l.at l.initial.out (lines_from l.list l.i) l.p l.out
+
+abbrev pub decreases-loop-i : goal.decreases-loop-i
+decreases-loop-i l = length l.list - l.i

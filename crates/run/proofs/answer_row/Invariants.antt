@@ -1,0 +1,30 @@
+-- `run::answer_row` meets its contract. The loop's invariant: the slaves that have yet to go over the row make of the bits of now what
+-- the whole chain makes of zeros, and of the registers and the counts; their bytes are those from `at` on. Assumes nothing.
+use mathlib.Core.List.{map}
+use mathlib.Core.Path.{◌≡◌, refl, sym, ap, ◌∙◌}
+use Prim.Native.Nat.{ℕ, ◌+◌, ◌-◌, ◌≤◌}
+use native.Mathlib.Omega.{arith}
+use borrow.Author.Rules.{rules}
+use lib.ListN.{length, length-replicate, length-take, length-drop, drop, replicate}
+use Rattle.protocol.specs.Bits.{num, row_of}
+use Rattle.protocol.specs.Chain.{answers_from, memories_after}
+use Rattle.run.proofs.Rows.{Gone, stored_long, counted_long, bits_next, sent_next, gathered_next, tallied_next}
+use Rattle.run.proofs.Rows.{waiting, gathered, tallied, sent_first, gathered_first, tallied_first, bits_first, rowed}
+use Rattle.run.proofs.Tables.{sizes_next, sizes_none, room}
+use Rattle.run.proofs.Turned.{all_sent}
+use Rattle.run.specs.Run.{sizes, memories_of, registers_of, counts_of}
+use Rattle.run.proofs.answer_row.Given as goal
+
+abbrev pub invariant-loop-i : goal.invariant-loop-i
+invariant-loop-i l =
+    (l.i ≤ length l.banks) × (length l.registers ≡ length l.initial.registers) × (length l.counts ≡ length l.initial.counts) × (length l.cds ≡ length l.cdm)
+    × (l.at + sizes (drop l.i l.banks) ≡ length l.registers) × (map num (row_of l.cds) ≡ l.cds)
+    × (all_sent (waiting l.banks l.i l.at l.registers l.rights l.waits) (row_of l.cdm) (row_of l.cds)
+    ≡ answers_from (memories_of l.banks l.initial.registers l.rights l.waits) (row_of l.cdm))
+    × (gathered l.banks l.i l.at l.registers l.rights l.waits l.cdm l.cds
+    ≡ registers_of (memories_after (memories_of l.banks l.initial.registers l.rights l.waits) (row_of l.cdm)))
+    × (tallied l.banks l.i l.at l.registers l.rights l.waits l.counts l.cdm l.cds
+    ≡ counts_of (memories_after (memories_of l.banks l.initial.registers l.rights l.waits) (row_of l.cdm)))
+
+abbrev pub decreases-loop-i : goal.decreases-loop-i
+decreases-loop-i l = length l.banks - l.i

@@ -1,0 +1,21 @@
+-- `run::sizes` meets its contract. The loop's invariant: the bytes counted and those of what is left of the table are those of all of it.
+-- Assumes nothing.
+use mathlib.Core.Path.{◌≡◌}
+use Prim.Native.Nat.{◌+◌, ◌-◌, ◌*◌, ◌≤◌}
+use native.Mathlib.Omega.{arith}
+use borrow.Author.Rules.{rules}
+use lib.ListN.{length, drop}
+use Rattle.run.specs.Run.{size_of, sizes}
+use Rattle.run.proofs.Tables.{sizes_next, sizes_none}
+use Rattle.run.proofs.sizes.Goals as goal
+
+pub loop-i-preserved : goal.loop-i-preserved
+loop-i-preserved c =
+    let l = c.loop-i in
+    let table = c.args.banks.now in
+    (search rules, search rules, omega (arith, l.invariant.2, c.??type_size.ensures.0, sizes_next table l.i c.loop-i-test.true))
+
+pub returns : goal.returns
+returns c =
+    let l = c.loop-i in
+    omega (arith, l.invariant.2, sizes_none c.args.banks.now l.i c.loop-i-test.false)
