@@ -1,122 +1,160 @@
 -- `list_text::put_line` meets its contract: the name, the fields one after another, and the line feed. Assumes nothing.
-use mathlib.Core.Path.{refl}
+use mathlib.Core.Path.{◌≡◌, refl}
+use mathlib.Core.Bool.{Bool, true}
 use mathlib.Core.List.{List}
-use Prim.Native.Nat.{ℕ}
+use Prim.Native.Nat.{ℕ, ◌+◌, ◌≤◌}
 use native.Mathlib.Omega.{arith}
 use borrow.Author.Rules.{rules}
-use lib.ListN.{drop}
+use lib.ListN.{length, drop}
 use Rattle.protocol.specs.Layout.{Field, numbers, order}
-use Rattle.protocol.specs.Text.{cells, entry_line}
+use Rattle.protocol.specs.Text.{cells, entry_line, field}
 use Rattle.lists.specs.Fields.{entry_of}
+use Rattle.lists.specs.declared.Fields.{Fields}
 use Rattle.names.specs.Names.{name_of, names, names_bank_of}
+use Rattle.print.specs.Laid.{Laid}
 use Rattle.print.proofs.Laid.{laid_length}
 use Rattle.list_text.proofs.Parts.{Left, line_length_lem, left_all, left_behind, left_same, field_room, field_behind, line_end}
 use Rattle.list_text.proofs.put_line.Goals as goal
 
-abbrev LeftOf : tie.Start → Field → (p : ℕ) → (now : List ℕ) → Type 0
-LeftOf s f p now =
-    Left (entry_line (entry_of s.args.e)) s.args.at s.args.out.now (cells (entry_of s.args.e) (drop (order f) numbers)) p now
+-- What is left of an entry's line behind one of its fields.
+abbrev LeftOf : (e : Fields) → (at : ℕ) → (lent : List ℕ) → Field → (p : ℕ) → (now : List ℕ) → Type 0
+LeftOf e at lent f p now = Left (entry_line (entry_of e)) at lent (cells (entry_of e) (drop (order f) numbers)) p now
+
+behind_name : (e : Fields) {at q : ℕ} {lent after : List ℕ} → at + length (entry_line (entry_of e)) ≤ length lent
+    → Laid (name_of e.kind) at lent q after → LeftOf e at lent Field.kind q after
+unfolding entry_line name_of
+behind_name e room put = left_behind _ (left_all room) put
+
+module _ (e : Fields) {at p q : ℕ} {lent now after : List ℕ} where
+  behind_column : LeftOf e at lent Field.kind p now → Laid (field true e.column) p now q after → LeftOf e at lent Field.column q after
+  behind_column left put = field_behind _ Field.column _ refl left put
+
+  behind_start : LeftOf e at lent Field.column p now → Laid (field true e.start) p now q after → LeftOf e at lent Field.start q after
+  behind_start left put = field_behind _ Field.start _ refl left put
+
+  module _ {b : Bool} where
+    behind_id : b ≡ names e.kind 0 → LeftOf e at lent Field.start p now → Laid (field b e.id) p now q after → LeftOf e at lent Field.id q after
+    unfolding names
+    behind_id named left put = field_behind _ Field.id _ named left put
+
+    behind_address : b ≡ names e.kind 1 → LeftOf e at lent Field.id p now → Laid (field b e.address) p now q after
+        → LeftOf e at lent Field.address q after
+    unfolding names
+    behind_address named left put = field_behind _ Field.address _ named left put
+
+    behind_bank : b ≡ names_bank_of e.kind e.address → LeftOf e at lent Field.address p now → Laid (field b e.bank) p now q after
+        → LeftOf e at lent Field.bank q after
+    unfolding names_bank_of
+    behind_bank named left put = field_behind _ Field.bank _ named left put
+
+    behind_value : b ≡ names e.kind 2 → LeftOf e at lent Field.bank p now → Laid (field b e.value) p now q after
+        → LeftOf e at lent Field.value q after
+    unfolding names
+    behind_value named left put = field_behind _ Field.value _ named left put
 
 pub put_name-name-requires : goal.put_name-name-requires
 unfolding name_of
 put_name-name-requires c =
     (c.requires.0, omega (arith, line_length_lem (entry_of c.args.e)))
 
-abbrev begin : tie.After-put-name → tie.Start
-begin c = c.before.before.before
+pub has_bank-requires : goal.has_bank-requires
+has_bank-requires c = c.requires.0
 
-behind_name : (c : tie.After-put-name) → LeftOf (begin c) Field.kind c.put-name.result c.put-name.new.0
-unfolding entry_line name_of
-behind_name c = left_behind _ (left_all (begin c).requires.1) c.put-name.ensures
+pub has_field-requires-3 : goal.has_field-requires-3
+has_field-requires-3 c = (c.requires.0, omega arith)
 
 pub put_field-column-requires : goal.put_field-column-requires
-put_field-column-requires c = field_room _ Field.column _ refl (behind_name c)
-
-abbrev name : tie.After-put-field → tie.After-put-name
-name c = c.before.before.before.before
-
-behind_column : (c : tie.After-put-field)
-    → LeftOf (begin (name c)) Field.column c.put-field.result c.put-field.new.0
-behind_column c = field_behind _ Field.column _ refl (behind_name (name c)) c.put-field.ensures
+put_field-column-requires c =
+    let name = behind_name c.args.e c.requires.1 c.put_name-name.ensures in
+    field_room _ Field.column _ refl name
 
 pub put_field-start-requires : goal.put_field-start-requires
-put_field-start-requires c = field_room _ Field.start _ refl (behind_column c)
-
-abbrev column : tie.After-put-field2 → tie.After-put-field
-column c = c.before.before.before.before
-
-behind_start : (c : tie.After-put-field2)
-    → LeftOf (begin (name (column c))) Field.start c.put-field2.result c.put-field2.new.0
-behind_start c = field_behind _ Field.start _ refl (behind_column (column c)) c.put-field2.ensures
+put_field-start-requires c =
+    let name = behind_name c.args.e c.requires.1 c.put_name-name.ensures in
+    let column = behind_column c.args.e name c.put_field-column.ensures in
+    field_room _ Field.start _ refl column
 
 pub put_field-id-requires : goal.put_field-id-requires
 unfolding names
-put_field-id-requires c = field_room _ Field.id _ c.has_field.ensures (behind_start c)
-
-abbrev start : tie.After-put-field3 → tie.After-put-field2
-start c = c.before.before.before.before.before.before
-
-behind_id : (c : tie.After-put-field3)
-    → LeftOf (begin (name (column (start c)))) Field.id c.put-field3.result c.put-field3.new.0
-unfolding names
-behind_id c = field_behind _ Field.id _ c.before.before.has-field.ensures (behind_start (start c)) c.put-field3.ensures
+put_field-id-requires c =
+    let name = behind_name c.args.e c.requires.1 c.put_name-name.ensures in
+    let column = behind_column c.args.e name c.put_field-column.ensures in
+    let start = behind_start c.args.e column c.put_field-start.ensures in
+    field_room _ Field.id _ c.has_field.ensures start
 
 pub put_field-address-requires : goal.put_field-address-requires
 unfolding names
-put_field-address-requires c = field_room _ Field.address _ c.has_field-2.ensures (behind_id c)
-
-abbrev id : tie.After-put-field4 → tie.After-put-field3
-id c = c.before.before.before.before.before.before
-
-behind_address : (c : tie.After-put-field4)
-    → LeftOf (begin (name (column (start (id c))))) Field.address c.put-field4.result c.put-field4.new.0
-unfolding names
-behind_address c = field_behind _ Field.address _ c.before.before.has-field2.ensures (behind_id (id c)) c.put-field4.ensures
-
-pub has_bank-requires : goal.has_bank-requires
-has_bank-requires c = (begin (name (column (start (id c))))).requires.0
+put_field-address-requires c =
+    let name = behind_name c.args.e c.requires.1 c.put_name-name.ensures in
+    let column = behind_column c.args.e name c.put_field-column.ensures in
+    let start = behind_start c.args.e column c.put_field-start.ensures in
+    let id = behind_id c.args.e c.has_field.ensures start c.put_field-id.ensures in
+    field_room _ Field.address _ c.has_field-2.ensures id
 
 pub put_field-bank-requires : goal.put_field-bank-requires
 unfolding names_bank_of
-put_field-bank-requires c = field_room _ Field.bank _ c.has_bank.ensures (behind_address c)
-
-abbrev address : tie.After-put-field5 → tie.After-put-field4
-address c = c.before.before.before.before.before.before
-
-behind_bank : (c : tie.After-put-field5)
-    → LeftOf (begin (name (column (start (id (address c)))))) Field.bank c.put-field5.result c.put-field5.new.0
-unfolding names_bank_of
-behind_bank c = field_behind _ Field.bank _ c.before.before.has-bank.ensures (behind_address (address c)) c.put-field5.ensures
-
-pub has_field-requires-3 : goal.has_field-requires-3
-has_field-requires-3 c = ((begin (name (column (start (id (address c)))))).requires.0, omega arith)
+put_field-bank-requires c =
+    let name = behind_name c.args.e c.requires.1 c.put_name-name.ensures in
+    let column = behind_column c.args.e name c.put_field-column.ensures in
+    let start = behind_start c.args.e column c.put_field-start.ensures in
+    let id = behind_id c.args.e c.has_field.ensures start c.put_field-id.ensures in
+    let address = behind_address c.args.e c.has_field-2.ensures id c.put_field-address.ensures in
+    field_room _ Field.bank _ c.has_bank.ensures address
 
 pub put_field-value-requires : goal.put_field-value-requires
 unfolding names
-put_field-value-requires c = field_room _ Field.value _ c.has_field-3.ensures (behind_bank c)
-
-abbrev bank : tie.After-put-field6 → tie.After-put-field5
-bank c = c.before.before.before.before.before.before
-
-behind_value : (c : tie.After-put-field6)
-    → LeftOf (begin (name (column (start (id (address (bank c))))))) Field.value c.put-field6.result c.put-field6.new.0
-unfolding names
-behind_value c = field_behind _ Field.value _ c.before.before.has-field3.ensures (behind_bank (bank c)) c.put-field6.ensures
+put_field-value-requires c =
+    let name = behind_name c.args.e c.requires.1 c.put_name-name.ensures in
+    let column = behind_column c.args.e name c.put_field-column.ensures in
+    let start = behind_start c.args.e column c.put_field-start.ensures in
+    let id = behind_id c.args.e c.has_field.ensures start c.put_field-id.ensures in
+    let address = behind_address c.args.e c.has_field-2.ensures id c.put_field-address.ensures in
+    let bank = behind_bank c.args.e c.has_bank.ensures address c.put_field-bank.ensures in
+    field_room _ Field.value _ c.has_field-3.ensures bank
 
 pub bounds-out-value : goal.bounds-out-value
 unfolding cells
-bounds-out-value c = let left = behind_value c in search rules
+bounds-out-value c =
+    let name = behind_name c.args.e c.requires.1 c.put_name-name.ensures in
+    let column = behind_column c.args.e name c.put_field-column.ensures in
+    let start = behind_start c.args.e column c.put_field-start.ensures in
+    let id = behind_id c.args.e c.has_field.ensures start c.put_field-id.ensures in
+    let address = behind_address c.args.e c.has_field-2.ensures id c.put_field-address.ensures in
+    let bank = behind_bank c.args.e c.has_bank.ensures address c.put_field-bank.ensures in
+    let value = behind_value c.args.e c.has_field-3.ensures bank c.put_field-value.ensures in
+    search rules
 
 pub overflow_add-result : goal.overflow_add-result
 unfolding cells
 overflow_add-result c =
-    let left = behind_value c in
-    let same = left_same left in
-    let good = (begin (name (column (start (id (address (bank c))))))).well-formed in
+    let name = behind_name c.args.e c.requires.1 c.put_name-name.ensures in
+    let column = behind_column c.args.e name c.put_field-column.ensures in
+    let start = behind_start c.args.e column c.put_field-start.ensures in
+    let id = behind_id c.args.e c.has_field.ensures start c.put_field-id.ensures in
+    let address = behind_address c.args.e c.has_field-2.ensures id c.put_field-address.ensures in
+    let bank = behind_bank c.args.e c.has_bank.ensures address c.put_field-bank.ensures in
+    let value = behind_value c.args.e c.has_field-3.ensures bank c.put_field-value.ensures in
+    let same = left_same value in
     search rules
 
 pub shape_of-out : goal.shape_of-out
-shape_of-out c = laid_length (line_end _ (behind_value c))
+shape_of-out c =
+    let name = behind_name c.args.e c.requires.1 c.put_name-name.ensures in
+    let column = behind_column c.args.e name c.put_field-column.ensures in
+    let start = behind_start c.args.e column c.put_field-start.ensures in
+    let id = behind_id c.args.e c.has_field.ensures start c.put_field-id.ensures in
+    let address = behind_address c.args.e c.has_field-2.ensures id c.put_field-address.ensures in
+    let bank = behind_bank c.args.e c.has_bank.ensures address c.put_field-bank.ensures in
+    let value = behind_value c.args.e c.has_field-3.ensures bank c.put_field-value.ensures in
+    laid_length (line_end (entry_of c.args.e) value)
 
 pub returns : goal.returns
-returns c = line_end _ (behind_value c)
+returns c =
+    let name = behind_name c.args.e c.requires.1 c.put_name-name.ensures in
+    let column = behind_column c.args.e name c.put_field-column.ensures in
+    let start = behind_start c.args.e column c.put_field-start.ensures in
+    let id = behind_id c.args.e c.has_field.ensures start c.put_field-id.ensures in
+    let address = behind_address c.args.e c.has_field-2.ensures id c.put_field-address.ensures in
+    let bank = behind_bank c.args.e c.has_bank.ensures address c.put_field-bank.ensures in
+    let value = behind_value c.args.e c.has_field-3.ensures bank c.put_field-value.ensures in
+    line_end (entry_of c.args.e) value

@@ -32,14 +32,14 @@ pub returns-then-left-n : goal.returns-then-left-n
 returns-then-left-n c =
     let l = c.loop-i in
     let long = lines_length _ l.i c.loop-i-test.true l.invariant.1 in
-    let line = rw c.entry_at.ensures at c.??line_length_lem.ensures in
+    let line = rw c.entry_at.ensures at c.line_length-n.ensures in
     sym (lt-ltb l.left _ (omega arith)) ∙ l.invariant.2
 
 pub loop-i-preserved : goal.loop-i-preserved
 loop-i-preserved c =
     let l = c.loop-i in
     let long = lines_length _ l.i c.loop-i-test.true l.invariant.1 in
-    let line = rw c.entry_at.ensures at c.??line_length_lem.ensures in (
+    let line = rw c.entry_at.ensures at c.line_length-n.ensures in (
       search rules,
       list_behind _ l.i c.loop-i-test.true l.invariant.1,
       less_room l.left _ _ c.if-left-n.false ∙ ap (ltb l.left) (rw line (sym long)) ∙ l.invariant.2,

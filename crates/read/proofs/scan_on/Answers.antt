@@ -1,6 +1,5 @@
 -- `read::scan_on` meets its contract. The loop's invariant: what is reached from here over the columns that are left is what is reached
 -- from the start over all. Assumes nothing.
-use mathlib.Core.Logic.{⊎_elim}
 use mathlib.Core.Path.{◌≡◌, refl, sym, ap, ◌∙◌}
 use Prim.Native.Nat.{◌+◌, ◌-◌, ◌^◌, ◌≤◌, ◌<◌}
 use native.Mathlib.Omega.{arith}
@@ -14,6 +13,7 @@ use Rattle.read.specs.Parts.{bytes_for, bank_by, learnt_by, kept, Reached, reach
 use Rattle.read.proofs.Kept.{length_all}
 use Rattle.read.proofs.Left.{still_early, its_kind, early_enough, turn_none, turn_some, none_left}
 use Rattle.read.proofs.scan_on.Goals as goal
+use Rattle.read.proofs.scan_on.Goals.{then-e-ne0, else-e-ne0}
 
 pub loop-i-init : goal.loop-i-init
 loop-i-init c = (search rules, omega arith, search rules, search rules, refl)
@@ -41,12 +41,12 @@ loop-i-preserved c =
     let r = c.step-t.result in
     let joined = c.if-e-ne0 in
     let early = still_early l.reader l.column c.step-t.ensures l.invariant.3 in
-    ⊎_elim
-    (λ w.
-    let bank : w.1.result ≡ bank_by l.known r.event = w.1.ensures in
-    let up : joined.n ≡ l.n + 1 = w.9 ∙ w.4.ensures.0 in
-    let told : joined.known ≡ learnt_by l.known r.event = w.8 ∙ w.2.ensures in
-    let stored : joined.out ≡ kept l.out l.n (bytes_for (record { column = l.column; start = l.reader.body.start }) r.event (bank_by l.known r.event)) = rw (← bank) (w.7 ∙ w.4.ensures.1) in (
+    elim joined.branch [
+      then-e-ne0 w ↦
+    let bank : w.bank_of-bank.result ≡ bank_by l.known r.event = w.bank_of-bank.ensures in
+    let up : joined.n ≡ l.n + 1 = w.n-is ∙ w.keep-n.ensures.0 in
+    let told : joined.known ≡ learnt_by l.known r.event = w.known-is ∙ w.learnt-next.ensures in
+    let stored : joined.out ≡ kept l.out l.n (bytes_for (record { column = l.column; start = l.reader.body.start }) r.event (bank_by l.known r.event)) = rw (← bank) (w.out-is ∙ w.keep-n.ensures.1) in (
       search rules,
       omega arith,
       omega arith,
@@ -54,8 +54,8 @@ loop-i-preserved c =
       rw (up, told, stored)
           (sym (turn_some a.cdm.now a.cds.now l.i c.loop-i-test.true c.requires.0 l.reader l.column r c.step-t.ensures l.known l.n l.out (search rules))
           ∙ l.invariant.4),
-    ))
-    (λ w.
+    )
+    | else-e-ne0 w ↦
     let silent : joined.n ≡ l.n = cc in
     let untold : joined.known ≡ l.known = cc in
     let stays : joined.out ≡ l.out = cc in (
@@ -66,8 +66,8 @@ loop-i-preserved c =
       rw (silent, untold, stays)
           (sym (turn_none a.cdm.now a.cds.now l.i c.loop-i-test.true c.requires.0 l.reader l.column r c.step-t.ensures l.known l.n l.out (search rules))
           ∙ l.invariant.4),
-    ))
-    joined.branch
+    )
+    ]
 
 pub shape_of-out : goal.shape_of-out
 unfolding reached

@@ -9,4 +9,4 @@ pub returns-then-i-lt-IDS : goal.returns-then-i-lt-IDS
 returns-then-i-lt-IDS c = search (any_default, rules)
 
 pub returns-else-i-lt-IDS : goal.returns-else-i-lt-IDS
-returns-else-i-lt-IDS c = sym (get_or-eq_default c.args.t1 _ {n = c.args.id} (search rules))
+returns-else-i-lt-IDS c = sym (get_or-eq_default c.args.known _ {n = c.args.id} (search rules))

@@ -19,7 +19,7 @@ pub loop-i-init : goal.loop-i-init
 loop-i-init c =
     let a = c.args in
     let cleared = c.clear in
-    let zeros : cleared.new.0 ≡ replicate (length a.cdm.now) 0
+    let zeros : cleared.new.cds ≡ replicate (length a.cdm.now) 0
     = cleared.ensures ∙ ap (λ (n : ℕ). replicate n 0) c.requires.1 in (
       search rules,
       refl,
@@ -35,19 +35,19 @@ loop-i-init c =
 pub overflow_add-end : goal.overflow_add-end
 overflow_add-end c =
     let l = c.loop-i in
-    let fits = room c.args.banks.now l.i l.at _ _ c.loop-i-test.true c.??type_size.ensures.0 l.invariant.4 in
+    let fits = room c.args.banks.now l.i l.at _ _ c.loop-i-test.true c.size_of.ensures.0 l.invariant.4 in
     search (fits, rules)
 
 pub slice_bounds-pass_slave-end : goal.slice_bounds-pass_slave-end
 slice_bounds-pass_slave-end c =
-    let size = c.??type_size in
+    let size = c.size_of in
     let l = c.loop-i in
     let fits = room c.args.banks.now l.i l.at _ _ c.loop-i-test.true size.ensures.0 l.invariant.4 in
     omega (arith, fits, l.invariant.1, c.requires.0.all_registers, c.requires.0.all_rights)
 
 pub slice_bounds-pass_slave-end-in-loop-i : goal.slice_bounds-pass_slave-end-in-loop-i
 slice_bounds-pass_slave-end-in-loop-i c =
-    let size = c.??type_size in
+    let size = c.size_of in
     let l = c.loop-i in
     room c.args.banks.now l.i l.at _ _ c.loop-i-test.true size.ensures.0 l.invariant.4
 
@@ -57,7 +57,7 @@ slice_bounds-pass_slave-end-in-loop-i-2 c =
 
 pub pass_slave-requires : goal.pass_slave-requires
 pass_slave-requires c =
-    let size = c.??type_size in
+    let size = c.size_of in
     let l = c.loop-i in
     let small = c.loop-i-test.true in
     let fits = room c.args.banks.now l.i l.at _ _ small size.ensures.0 l.invariant.4 in (
@@ -72,26 +72,26 @@ pass_slave-requires c =
 pub loop-i-preserved : goal.loop-i-preserved
 loop-i-preserved c =
     let pass = c.pass_slave in
-    let size = c.??type_size in
+    let size = c.size_of in
     let l = c.loop-i in
     let a = c.args in
     let small = c.loop-i-test.true in
     let gone : Gone a.banks.now l.i l.at (l.at + size.result) _ l.registers a.rights.now a.waits.now l.counts
-    a.cdm.now l.cds pass.new.1.1.1.0 pass.new.1.1.1.1.0 pass.new.1.1.1.1.1.1.0
+    a.cdm.now l.cds pass.new.registers pass.new.counts pass.new.cds
     = record {
       banks = refl;
       stop = ap (λ (n : ℕ). l.at + n) size.ensures.0;
       small = small;
       long = room a.banks.now l.i l.at _ _ small size.ensures.0 l.invariant.4;
-      same = pass.auto.1.1.1.0;
+      same = pass.auto.registers;
       full = l.invariant.2 ∙ c.requires.0.all_counts;
-      four = pass.auto.1.1.1.1.0;
+      four = pass.auto.counts;
       passed = pass.ensures;
     } in (
       search rules,
       stored_long gone ∙ l.invariant.1,
       counted_long gone ∙ l.invariant.2,
-      pass.auto.1.1.1.1.1.1.0 ∙ l.invariant.3,
+      pass.auto.cds ∙ l.invariant.3,
       omega (arith, stored_long gone, size.ensures.0, sizes_next a.banks.now l.i small, l.invariant.4),
       bits_next gone,
       sym (sent_next gone) ∙ l.invariant.6,

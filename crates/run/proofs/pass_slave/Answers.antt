@@ -2,7 +2,6 @@
 -- `at` is the place that the address `known` shows in the registers as they now are, and no count is above the columns so far. Assumes
 -- nothing.
 use mathlib.Core.List.{map, ◌++◌}
-use mathlib.Core.Logic.{⊎_elim}
 use mathlib.Core.Path.{◌≡◌, refl, sym, ap, ◌∙◌}
 use Prim.Native.Nat.{◌+◌, ◌-◌, ◌≤◌, ◌<◌}
 use native.Mathlib.Omega.{arith}
@@ -19,12 +18,13 @@ use Rattle.run.specs.Parts.{sent_by, after_by, memory_by, new_by, counts_by, sho
 use Rattle.run.proofs.Counts.{NoneOver, none_counted, ran_counted, ran_long}
 use Rattle.run.proofs.Slaves.{own_step, place_kept, sent_next, after_next, passed}
 use Rattle.run.proofs.pass_slave.Goals as goal
+use Rattle.run.proofs.pass_slave.Goals.{then-silent, else-silent}
 
 pub loop-i-init : goal.loop-i-init
 unfolding shown_in
 loop-i-init c =
     let cleared = c.clear_counts in
-    let zeros : cleared.new.0 ≡ uncounted = cleared.ensures in (
+    let zeros : cleared.new.counts ≡ uncounted = cleared.ensures in (
       search rules,
       c.requires.0,
       rw zeros,
@@ -37,17 +37,17 @@ loop-i-init c =
 
 pub found-at-requires : goal.found-at-requires
 found-at-requires c =
-    let l = c.??loop in
-    (l.invariant.1, l.invariant.5, c.??address.ensures.1)
+    let l = c.loop-i in
+    (l.invariant.1, l.invariant.5, c.address-address.ensures.1)
 
 pub bounds-cds-i-else-silent : goal.bounds-cds-i-else-silent
 bounds-cds-i-else-silent c =
-    omega (arith, c.??loop.invariant.3, c.requires.3, c.??loop-test.true)
+    omega (arith, c.loop-i.invariant.3, c.requires.3, c.loop-i-test.true)
 
 pub count-requires : goal.count-requires
 count-requires c =
-    let l = c.??loop in
-    (l.invariant.2, omega (arith, l.invariant.4 c.step-turn.result.ran, c.requires.4, c.??loop-test.true))
+    let l = c.loop-i in
+    (l.invariant.2, omega (arith, l.invariant.4 c.step-turn.result.ran, c.requires.4, c.loop-i-test.true))
 
 pub loop-i-preserved : goal.loop-i-preserved
 loop-i-preserved c =
@@ -58,39 +58,39 @@ loop-i-preserved c =
     let wait = c.args.wait in
     let small = c.loop-i-test.true in
     let room : l.i < length l.cds = omega (arith, l.invariant.3, c.requires.3, small) in
-    ⊎_elim
-    (λ w.
+    elim c.if-silent.branch [
+      then-silent w ↦
     let own = passes_on (memory_by banks l.registers rights wait l.counts) (state_of l.slave) _ _
-    (sym c.silent.ensures ∙ w.0.taken) in (
+    (sym c.silent.ensures ∙ w.if-silent.true) in (
       search rules,
-      rw w.2 l.invariant.1,
-      rw w.3 l.invariant.2,
-      rw (w.4, length-set) l.invariant.3,
-      rw w.3 (λ code. omega (arith, l.invariant.4 code)),
-      rw (w.2, w.6, w.7) l.invariant.5,
-      rw (w.2, w.3, w.4, w.5, w.1.ensures) (sym (sent_next _ _ cdm l.cds l.i small room own) ∙ l.invariant.6),
-      rw (w.2, w.3, w.4, w.5, w.1.ensures) (sym (after_next _ _ cdm l.cds l.i small room own) ∙ l.invariant.7),
-    ))
-    (λ w.
-    let p = w.3.result in
-    let turn = w.6.result in
+      rw w.registers-is l.invariant.1,
+      rw w.counts-is l.invariant.2,
+      rw (w.cds-is, length-set) l.invariant.3,
+      rw w.counts-is (λ code. omega (arith, l.invariant.4 code)),
+      rw (w.registers-is, w.known-is, w.at-is) l.invariant.5,
+      rw (w.registers-is, w.counts-is, w.cds-is, w.slave-is, w.heard-next.ensures) (sym (sent_next _ _ cdm l.cds l.i small room own) ∙ l.invariant.6),
+      rw (w.registers-is, w.counts-is, w.cds-is, w.slave-is, w.heard-next.ensures) (sym (after_next _ _ cdm l.cds l.i small room own) ∙ l.invariant.7),
+    )
+    | else-silent w ↦
+    let p = w.found-at.result in
+    let turn = w.step-turn.result in
     let here : p ≡ shown_in banks l.registers (address_of l.slave)
-    = w.3.ensures ∙ ap (shown_in banks l.registers) w.1.ensures.0 in
+    = w.found-at.ensures ∙ ap (shown_in banks l.registers) w.address-address.ensures.0 in
     let own = own_step banks l.registers rights wait l.counts l.invariant.1 c.requires.1 l.slave p _ _ turn here
-    (rw w.5.ensures at w.6.ensures) in
-    let kept : c.if-silent.registers ≡ set l.registers p turn.byte = w.17 ∙ w.9.ensures in
-    let tally : c.if-silent.counts ≡ counts_by turn.ran l.counts = w.18 ∙ w.13.ensures in (
+    (rw w.sees-seen.ensures at w.step-turn.ensures) in
+    let kept : c.if-silent.registers ≡ set l.registers p turn.byte = w.registers-is ∙ w.keep.ensures in
+    let tally : c.if-silent.counts ≡ counts_by turn.ran l.counts = w.counts-is ∙ w.count.ensures in (
       search rules,
       rw (kept, length-set) l.invariant.1,
       rw tally (ran_long turn.ran l.counts ∙ l.invariant.2),
-      rw (w.19, length-set) l.invariant.3,
+      rw (w.cds-is, length-set) l.invariant.3,
       rw tally (ran_counted l.i turn.ran l.counts l.invariant.4),
-      rw (kept, w.21, w.22, w.1.ensures.0)
+      rw (kept, w.known-is, w.at-is, w.address-address.ensures.0)
           (place_kept banks l.registers rights wait l.counts l.invariant.1 c.requires.1 _ p turn.byte here),
-      rw (kept, tally, w.19, w.20) (sym (sent_next _ _ cdm l.cds l.i small room own) ∙ l.invariant.6),
-      rw (kept, tally, w.19, w.20) (sym (after_next _ _ cdm l.cds l.i small room own) ∙ l.invariant.7),
-    ))
-    c.if-silent.branch
+      rw (kept, tally, w.cds-is, w.slave-is) (sym (sent_next _ _ cdm l.cds l.i small room own) ∙ l.invariant.6),
+      rw (kept, tally, w.cds-is, w.slave-is) (sym (after_next _ _ cdm l.cds l.i small room own) ∙ l.invariant.7),
+    )
+    ]
 
 pub shape_of-registers : goal.shape_of-registers
 shape_of-registers c =

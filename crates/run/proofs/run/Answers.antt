@@ -22,4 +22,4 @@ pub returns : goal.returns
 returns c =
     let row = c.answer_row in
     ran_made _ _ _ _ _ _ _ _ _ _ _ (gave_none _ c.refusal-why.ensures c.if-why-ne0.false) row.ensures
-    row.auto.1.1.1.0 row.auto.1.1.1.1.0 row.auto.1.1.1.1.1.1.0
+    row.auto.registers row.auto.counts row.auto.cds

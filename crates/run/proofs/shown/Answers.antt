@@ -12,11 +12,11 @@ returns-then-chosen-banks c = search cases
 
 pub returns-else-chosen-banks : goal.returns-else-chosen-banks
 unfolding place_of
-returns-else-chosen-banks c = search (c.??type_size.ensures.0, cases)
+returns-else-chosen-banks c = search (c.size_of-past.ensures.0, cases)
 
 pub returns-then-banks-eq1 : goal.returns-then-banks-eq1
 unfolding place_of
-returns-then-banks-eq1 c = search (c.??type_size.ensures.0, cases)
+returns-then-banks-eq1 c = search (c.size_of-past.ensures.0, cases)
 
 pub returns-else-banks-eq1 : goal.returns-else-banks-eq1
 unfolding place_of

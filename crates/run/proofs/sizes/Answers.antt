@@ -13,7 +13,7 @@ pub loop-i-preserved : goal.loop-i-preserved
 loop-i-preserved c =
     let l = c.loop-i in
     let table = c.args.banks.now in
-    (search rules, search rules, omega (arith, l.invariant.2, c.??type_size.ensures.0, sizes_next table l.i c.loop-i-test.true))
+    (search rules, search rules, omega (arith, l.invariant.2, c.size_of-bytes.ensures.0, sizes_next table l.i c.loop-i-test.true))
 
 pub returns : goal.returns
 returns c =
