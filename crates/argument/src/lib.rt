@@ -1,4 +1,6 @@
 // What an argument on the command line asks of the indexing program: an opening column, or help.
+#![tactic(auto)]
+
 ghost use Rattle.std.specs.Prelude.{◌≡◌, true, ◌+◌, ◌-◌, ◌*◌, ◌≤◌, min, length, drop};
 ghost use Rattle.argument.specs.Argument.{farthest, is_digit, asked_from, is_help, asked_by};
 

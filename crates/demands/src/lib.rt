@@ -1,1 +1,3 @@
 // Nothing runs here: what is proved of the jobs together stands in proofs/Demands.antt.
+#![tactic(auto)]
+

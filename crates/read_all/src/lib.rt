@@ -1,6 +1,8 @@
 // Many stretches of one recording in one call (Request 06). The call itself stands in biss, since it alone walks the lent table; here
 // is what it asks of one job at a time, in passes over the table: whether every stretch lies within the rows, what the reader refuses,
 // whether all lists have room, and last the lists. No byte is written before every refusal is ruled out.
+#![tactic(auto)]
+
 ghost use Rattle.std.specs.Prelude.{◌≡◌, ◌+◌, ◌^◌, ◌≤◌, ◌<◌, ltb, length, set};
 ghost use Rattle.job.specs.Refusals.{first, given};
 ghost use Rattle.read.specs.Parts.{kept_all, room_of};

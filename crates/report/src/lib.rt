@@ -1,4 +1,6 @@
 // What the indexing program prints for a text of two rows: their list as text, or the line of a refusal.
+#![tactic(auto)]
+
 ghost use Rattle.std.specs.Prelude.{◌≡◌, ◌+◌, ◌*◌, ◌≤◌, length};
 ghost use Rattle.std.proofs.Math.Option.{none};
 ghost use Rattle.protocol.specs.Limits.{column_limit};

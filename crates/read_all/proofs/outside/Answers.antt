@@ -5,20 +5,16 @@ use native.Mathlib.Omega.{arith}
 use borrow.Author.Tests.{lt-ltb, le-ltb, ltb-true, ltb-false}
 use lib.Dec.{ltb}
 use Rattle.laws.proofs.Every.{tested}
-use Rattle.read_all.proofs.outside.Statement.{statement}
-use Rattle.read_all.proofs.outside.Tie as tie
+use Rattle.read_all.proofs.outside.Goals as goal
 
-returns : tie.Need-returns
-returns c =
-    let a = c.before.before.args in
+pub returns-then-columns-job : goal.returns-then-columns-job
+returns-then-columns-job c =
+    let a = c.args in
     sym (lt-ltb a.columns (a.job.first + a.job.length) (omega arith))
 
-returns-2 : tie.Need-returns-2
-returns-2 c =
-    let a = c.before.before.before.before.args in
+pub returns-else-columns-job : goal.returns-else-columns-job
+returns-else-columns-job c =
+    let a = c.args in
     let room = a.columns - a.job.first in
     tested (ltb room a.job.length) (λ t. t ∙ sym (lt-ltb a.columns (a.job.first + a.job.length) (omega (arith, ltb-true room a.job.length t))))
     (λ t. t ∙ sym (le-ltb a.columns (a.job.first + a.job.length) (omega (arith, ltb-false room a.job.length t))))
-
-pub outside-spec : {M : Type 1} → statement M
-outside-spec = tie.close (tie.spec returns returns-2)

@@ -1,0 +1,11 @@
+-- `report::whole` meets its contract. Assumes nothing.
+use borrow.Author.Rules.{rules}
+use Rattle.report.proofs.Lines.{crowded, roomy}
+use Rattle.report.proofs.whole.Goals as goal
+
+pub returns-then-out-text : goal.returns-then-out-text
+returns-then-out-text c = crowded _ _ c.if-out-text.true
+
+pub returns : goal.returns
+returns c =
+    roomy _ _ c.if-out-text.false c.put_bytes-n.ensures
