@@ -21,7 +21,7 @@ FACTS = {
     "in_row": "InRow",
 }
 # Names that would fall together with another, in one file or everywhere, each with the name that it gets.
-APART = {"ofJob": "told_of_job"}
+APART = {"ofJob": "told_of_job", "of-job": "of_job"}
 IN_FILE = {
     "reader/specs/Code.antt": {"small": "IsSmall"},
     "names/proofs/Numbers.antt": {"is_one": "is_one_lem"},

@@ -7,7 +7,7 @@ use borrow.Author.Tests.{lt-ltb, le-ltb, ltb-true, ltb-false}
 use lib.Dec.{ltb}
 use Rattle.protocol.specs.Limits.{slave_limit, id_count}
 use Rattle.laws.proofs.Every.{tested}
-use Rattle.job.specs.Refusals.{alone, on_line, of_job_lem, refusal, Ending, made, refused, told}
+use Rattle.job.specs.Refusals.{alone, on_line, of_job, refusal, Ending, made, refused, told}
 use Rattle.job.specs.declared.Outcome.{Outcome}
 use Rattle.channels.specs.Channel.{channel_of}
 use Rattle.channels.specs.declared.SlaveId.{SlaveId}
@@ -35,7 +35,7 @@ decode_code (refused (refusal k (on_line l b))) h =
     let byte : n / 2 ^ 6 % 2 ^ 3 ≡ b = omega arith in
     let number : n % 2 ^ 6 ≡ k = omega arith in
     rw (whole, le-ltb n (2 ^ 63) (omega arith), lt-ltb n (2 ^ 63 + 2 ^ 62) (omega arith), line, byte, number, line_read l b h.1)
-decode_code (refused (refusal k (of_job_lem i))) h =
+decode_code (refused (refusal k (of_job i))) h =
     let whole : min i (2 ^ 55 - 1) ≡ i = omega arith in
     let n : ℕ = 2 ^ 63 + 2 ^ 62 + 2 ^ 6 * i + k in
     let job : n / 2 ^ 6 % 2 ^ 56 ≡ i = omega arith in

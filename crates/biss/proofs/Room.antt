@@ -17,7 +17,7 @@ use Rattle.protocol.specs.Fault.{Fault, text_fault}
 use Rattle.laws.proofs.Every.{IfAny}
 use Rattle.protocol.proofs.Codec.{length_list}
 use Rattle.protocol.proofs.Fault.{Low, text_low}
-use Rattle.job.specs.Refusals.{Detail, alone, on_line, of_job_lem, Refusal, refusal, Rule, when, found, first, refused, ending, told, Lent, Ended}
+use Rattle.job.specs.Refusals.{Detail, alone, on_line, of_job, Refusal, refusal, Rule, when, found, first, refused, ending, told, Lent, Ended}
 use Rattle.job.specs.Rows.{row_rules, wrong_row, wrong_rows}
 use Rattle.job.specs.declared.Outcome.{Outcome}
 use Rattle.job.proofs.Refusals.{no, no_either}
@@ -84,7 +84,7 @@ listed_fits {cdm} {cds} {k} {out} listed h =
 number_fits : (number : ℕ) (beside : Detail) → Fits (refused (refusal number beside)) → number < 2 ^ 6
 number_fits number alone h = h
 number_fits number (on_line line byte) h = h.0
-number_fits number (of_job_lem job) h = h.0
+number_fits number (of_job job) h = h.0
 
 one_fits : (i : ℕ) (o rest : Option Refusal) → i < 2 ^ 55 → Fits (ending o 0) → AnyFits rest → AnyFits (or_else (told_of_job i o) rest)
 unfolding or_else

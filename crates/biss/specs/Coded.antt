@@ -7,7 +7,7 @@
 --         1    0    line, from 1; 0 for none        byte        number
 --         1    1    job, from 0                                 number
 use Rattle.std.specs.Prelude.{◌≡◌, cond, ℕ, zero, suc, ◌+◌, ◌-◌, ◌*◌, ◌/◌, ◌%◌, ◌^◌, ◌≤◌, ◌<◌, min, ltb}
-use Rattle.job.specs.Refusals.{Detail, alone, on_line, of_job_lem, refusal, Ending, made, refused, told}
+use Rattle.job.specs.Refusals.{Detail, alone, on_line, of_job, refusal, Ending, made, refused, told}
 use Rattle.job.specs.declared.Outcome.{Outcome}
 use Rattle.channels.specs.declared.Channel.{Channel}
 use Rattle.channels.specs.declared.Channel.TheVariants as Channels
@@ -17,7 +17,7 @@ unfoldable pub code : Ending → ℕ
 code (made count) = count
 code (refused (refusal number alone)) = 2 ^ 63 + number
 code (refused (refusal number (on_line line byte))) = 2 ^ 63 + 2 ^ 9 * min line (2 ^ 53 - 1) + 2 ^ 6 * byte + number
-code (refused (refusal number (of_job_lem job))) = 2 ^ 63 + 2 ^ 62 + 2 ^ 6 * min job (2 ^ 55 - 1) + number
+code (refused (refusal number (of_job job))) = 2 ^ 63 + 2 ^ 62 + 2 ^ 6 * min job (2 ^ 55 - 1) + number
 
 -- What is told beside a number, by the bits of the line and the byte: lines count from 1, so that 0 is none ..
 abbrev pub decode_line : (line byte : ℕ) → Detail
@@ -28,7 +28,7 @@ decode_line (suc line) byte = on_line (suc line) byte
 unfoldable pub decode_detail : (returned : ℕ) → Detail
 decode_detail returned =
     cond (ltb returned (2 ^ 63 + 2 ^ 62)) (decode_line (returned / 2 ^ 9 % 2 ^ 53) (returned / 2 ^ 6 % 2 ^ 3))
-    (of_job_lem (returned / 2 ^ 6 % 2 ^ 56))
+    (of_job (returned / 2 ^ 6 % 2 ^ 56))
 
 -- .. and all of it, read back.
 unfoldable pub decode : (returned : ℕ) → Ending
@@ -40,7 +40,7 @@ abbrev pub Fits : Ending → Type 0
 Fits (made count) = count < 2 ^ 63
 Fits (refused (refusal number alone)) = number < 2 ^ 6
 Fits (refused (refusal number (on_line line byte))) = (number < 2 ^ 6) × (1 ≤ line) × (line < 2 ^ 53) × (byte < 2 ^ 3)
-Fits (refused (refusal number (of_job_lem job))) = (number < 2 ^ 6) × (job < 2 ^ 55)
+Fits (refused (refusal number (of_job job))) = (number < 2 ^ 6) × (job < 2 ^ 55)
 
 -- A channel place counts from 1, so that 0 says that the chain has no slave of that ID; a refusal as of a job.
 unfoldable pub channel_code : Channel → ℕ

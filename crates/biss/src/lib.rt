@@ -2,6 +2,8 @@
 // or entries were made, or 2 ^ 63 and the number of the refusal; for what is wrong with a text also its line, times 512, and its byte in
 // that line, times 64; for what is wrong with a job of a table also 2 ^ 62 and the job, times 64. Beside them the channel place of a
 // slave.
+#![tactic(auto)]
+
 ghost use Rattle.std.specs.Prelude.{◌≡◌, ◌≤◌, min};
 ghost use Rattle.protocol.specs.Building.{Request};
 ghost use Rattle.channels.specs.Channel.{channel_of};

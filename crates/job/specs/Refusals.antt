@@ -13,7 +13,7 @@ use Rattle.job.specs.declared.Detail.TheVariants.{Alone, OnLine, OfJob}
 pub data Detail : Type 0 where
   alone : Detail
   on_line : (line byte : ℕ) → Detail
-  of_job_lem : (job : ℕ) → Detail
+  of_job : (job : ℕ) → Detail
 
 -- "A refusal returns its number", and what is told beside it.
 pub data Refusal : Type 0 where
@@ -50,7 +50,7 @@ ending (some r) count = refused r
 abbrev pub detail : Code.Detail → Detail
 detail Alone = alone
 detail (OnLine line byte) = on_line line byte
-detail (OfJob job) = of_job_lem job
+detail (OfJob job) = of_job job
 
 -- .. and the end.
 abbrev pub told : Outcome → Ending

@@ -16,7 +16,7 @@ use Rattle.protocol.specs.Pieces.{in_bytes, joined}
 use Rattle.protocol.specs.Layout.{field_bytes, bytes_of, list_bytes}
 use Rattle.protocol.specs.Reader
 use Rattle.job.specs.Bytes.{none_above, are_bits}
-use Rattle.job.specs.Refusals.{alone, of_job_lem, Refusal, refusal, first}
+use Rattle.job.specs.Refusals.{alone, of_job, Refusal, refusal, first}
 use Rattle.job.specs.Rows.{row_rules, wrong_rows}
 use Rattle.read.specs.Read.{list_of, rows_refusals}
 use Rattle.read_all.specs.declared.Job.{Job}
@@ -52,11 +52,11 @@ given names room counts = first (refusals cdm cds (map job_of names) room counts
 
 tables-hold :
     -- 20 of a later job before 7 of an earlier one, and 32 before both
-    (given (wrong ∷ shown ∷ long ∷ []) 9 3 ≡ some (refusal 20 (of_job_lem 2)))
+    (given (wrong ∷ shown ∷ long ∷ []) 9 3 ≡ some (refusal 20 (of_job 2)))
     × (given (wrong ∷ shown ∷ long ∷ []) 9 2 ≡ some (refusal 32 alone))
     -- 7 or 8 of the first job that has one, before 9 of all
-    × (given (shown ∷ wrong ∷ late ∷ []) 0 3 ≡ some (refusal 7 (of_job_lem 1)))
-    × (given (shown ∷ late ∷ wrong ∷ []) 0 3 ≡ some (refusal 8 (of_job_lem 1)))
+    × (given (shown ∷ wrong ∷ late ∷ []) 0 3 ≡ some (refusal 7 (of_job 1)))
+    × (given (shown ∷ late ∷ wrong ∷ []) 0 3 ≡ some (refusal 8 (of_job 1)))
     -- 9 for the sum
     × (given (shown ∷ empty ∷ sooner ∷ []) 17 3 ≡ some (refusal 9 alone))
     × (given (shown ∷ empty ∷ sooner ∷ []) 18 3 ≡ none)

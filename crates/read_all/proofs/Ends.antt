@@ -10,7 +10,7 @@ use lib.ListN.{length}
 use lib.Seq.{sets}
 use Rattle.protocol.specs.Layout.{current, list_bytes}
 use Rattle.protocol.proofs.Codec.{length_list}
-use Rattle.job.specs.Refusals.{of_job_lem, refusal, when, first, detail, lent_after}
+use Rattle.job.specs.Refusals.{of_job, refusal, when, first, detail, lent_after}
 use Rattle.job.specs.declared.Outcome.{Outcome}
 use Rattle.job.specs.declared.Outcome.TheVariants.{Made, Refused}
 use Rattle.job.specs.declared.Detail as Code
@@ -45,11 +45,11 @@ module _ (c : Call) where
           rw (as_lent.0, as_lent.1) (record { ends = ended_refused _ _ _ (Refused k beside) (refusal k (detail beside)) refl e })
 
       -- .. by 20 of a job, by the reader's own, or by 9 for the sum ..
-      pub outside_ends : (k i : ℕ) → placing c 0 c.jobs ≡ some (refusal k (of_job_lem i)) → Ends (Refused k (OfJob i)) out counts
+      pub outside_ends : (k i : ℕ) → placing c 0 c.jobs ≡ some (refusal k (of_job i)) → Ends (Refused k (OfJob i)) out counts
       unfolding or_else
       outside_ends k i e = refused_ends k (OfJob i) (left ∙ rw e)
 
-      pub own_ends : (k i : ℕ) → placing c 0 c.jobs ≡ none → judging c 0 c.jobs ≡ some (refusal k (of_job_lem i))
+      pub own_ends : (k i : ℕ) → placing c 0 c.jobs ≡ none → judging c 0 c.jobs ≡ some (refusal k (of_job i))
           → Ends (Refused k (OfJob i)) out counts
       unfolding or_else
       own_ends k i p e = refused_ends k (OfJob i) (left ∙ rw (p, e))

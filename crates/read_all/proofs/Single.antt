@@ -15,7 +15,7 @@ use Rattle.protocol.specs.Layout.{current, entry_bytes, list_bytes}
 use Rattle.protocol.proofs.Codec.{length_list}
 use Rattle.laws.proofs.Every.{Every}
 use Rattle.laws.proofs.Places.{every_at}
-use Rattle.job.specs.Refusals.{Detail, alone, of_job_lem, Refusal, refusal, when, found, first, lent, lent_after}
+use Rattle.job.specs.Refusals.{Detail, alone, of_job, Refusal, refusal, when, found, first, lent, lent_after}
 use Rattle.job.specs.Rows.{row_rules, wrong_rows}
 use Rattle.job.specs.declared.Outcome.{Outcome}
 use Rattle.job.specs.declared.Outcome.TheVariants.{Made, Refused}
@@ -122,9 +122,9 @@ module _ (cdm cds : List ℕ) (even : length cdm ≡ length cds) (number : ℕ) 
 -- A job is told by one of the two searches, and then the rows are of one length.
 searched : {Q : Type 0} (number place : ℕ) (several uneven crowded : Bool) (placing judging : Option Refusal)
     → first (when several 32 ∷ when uneven 6 ∷ found 20 placing ∷ found 5 judging ∷ when crowded 9 ∷ [])
-    ≡ some (refusal number (of_job_lem place))
-    → (placing ≡ some (refusal number (of_job_lem place)) → Q)
-    → (uneven ≡ false → placing ≡ none → judging ≡ some (refusal number (of_job_lem place)) → Q) → Q
+    ≡ some (refusal number (of_job place))
+    → (placing ≡ some (refusal number (of_job place)) → Q)
+    → (uneven ≡ false → placing ≡ none → judging ≡ some (refusal number (of_job place)) → Q) → Q
 unfolding first or_else
 searched number place true uneven crowded placing judging e p q = absurd (let z : ◌≡◌ {A = ℕ} 0 1 = cc in omega arith)
 searched number place false true crowded placing judging e p q = absurd (let z : ◌≡◌ {A = ℕ} 0 1 = cc in omega arith)

@@ -14,7 +14,7 @@ use Rattle.protocol.specs.Pieces.{joined}
 use Rattle.protocol.specs.Layout.{Layout, list_bytes}
 use Rattle.laws.proofs.Every.{Every, tested, looked_up}
 use Rattle.laws.proofs.Places.{at_drop, every_at}
-use Rattle.job.specs.Refusals.{Detail, alone, of_job_lem, Refusal, refusal, Rule, first}
+use Rattle.job.specs.Refusals.{Detail, alone, of_job, Refusal, refusal, Rule, first}
 use Rattle.job.proofs.Refusals.{no}
 use Rattle.read_all.specs.declared.Job.{Job}
 use Rattle.read_all.specs.ReadAll.{stretch, lists_of, counts_of, place_refusals, first_job}
@@ -98,7 +98,7 @@ module _ (rules : Job → List Rule) where
 
     -- .. and one that is refused is told.
     pub here : {number : ℕ} {beside : Detail} → first (rules j) ≡ some (refusal number beside)
-        → first_job rules i (j ∷ jobs) ≡ some (refusal number (of_job_lem i))
+        → first_job rules i (j ∷ jobs) ≡ some (refusal number (of_job i))
     unfolding first_job or_else
     here e = rw e
 
@@ -117,7 +117,7 @@ module _ (rules : Job → List Rule) where
 
   -- The one that is told is the first of those that are refused.
   abbrev ToldFrom : (i : ℕ) → List Job → (number : ℕ) → Detail → Type 0
-  ToldFrom i jobs number told = (place : ℕ) × (told ≡ of_job_lem (i + place)) × FirstAt (By number) Through jobs place
+  ToldFrom i jobs number told = (place : ℕ) × (told ≡ of_job (i + place)) × FirstAt (By number) Through jobs place
 
   told_from : (i : ℕ) (jobs : List Job) (number : ℕ) (told : Detail) → first_job rules i jobs ≡ some (refusal number told)
       → ToldFrom i jobs number told
@@ -131,7 +131,7 @@ module _ (rules : Job → List Rule) where
           let (place, is, at) = behind (sym (not_here i j jobs clear) ∙ e) in
           let on : i + 1 + place ≡ i + suc place = omega arith in (
             suc place,
-            is ∙ ap of_job_lem on,
+            is ∙ ap of_job on,
             record { job = at.job; there = at.there; refused = at.refused; before = (clear, at.before) },
           )
       go (some (refusal n beside)) why behind =
@@ -139,8 +139,8 @@ module _ (rules : Job → List Rule) where
           let number_is : n ≡ number = cc in
           (0, rw add-zero (cc), record { job = j; there = refl; refused = (beside, rw (← number_is) why); before = tt })
 
-  pub first_told : (jobs : List Job) (number i : ℕ) → first_job rules 0 jobs ≡ some (refusal number (of_job_lem i)) → FirstAt (By number) Through jobs i
+  pub first_told : (jobs : List Job) (number i : ℕ) → first_job rules 0 jobs ≡ some (refusal number (of_job i)) → FirstAt (By number) Through jobs i
   first_told jobs number i e =
-      let (place, is, at) = told_from 0 jobs number (of_job_lem i) e in
+      let (place, is, at) = told_from 0 jobs number (of_job i) e in
       let same : i ≡ place = cc (zero-add place) in
       rw same at

@@ -5,7 +5,7 @@ use Rattle.std.specs.Prelude.{not, List, [], ◌∷◌, ◌++◌, map, ℕ, ◌+
 use Rattle.std.proofs.Math.Option.{Option, none, some, or_else}
 use Rattle.protocol.specs.Banks.{Banked}
 use Rattle.protocol.specs.Layout.{current, list_bytes}
-use Rattle.job.specs.Refusals.{of_job_lem, Refusal, refusal, Rule, when, found, first, lent, Ended}
+use Rattle.job.specs.Refusals.{of_job, Refusal, refusal, Rule, when, found, first, lent, Ended}
 use Rattle.job.specs.declared.Outcome.{Outcome}
 use Rattle.read.specs.Read.{list_of, rows_refusals}
 use Rattle.read_all.specs.declared.Job.{Job}
@@ -38,7 +38,7 @@ own_refusals cdm cds j = rows_refusals (stretch j cdm) (stretch j cds) j.opening
 -- "with the job's number", the table's first being 0 ..
 abbrev pub told_of_job : (i : ℕ) → Option Refusal → Option Refusal
 told_of_job i none = none
-told_of_job i (some (refusal number beside)) = some (refusal number (of_job_lem i))
+told_of_job i (some (refusal number beside)) = some (refusal number (of_job i))
 
 -- .. "for the first job that has one": of a table whose first job has the number i.
 unfoldable pub first_job : (rules : Job → List Rule) → (i : ℕ) → List Job → Option Refusal

@@ -9,7 +9,7 @@ use lib.ListN.{length, take, set}
 use lib.Seq.{take_at}
 use Rattle.protocol.specs.Entries.{bytes}
 use Rattle.protocol.specs.Text.{tab, feed, digits_in, decimal}
-use Rattle.job.specs.Refusals.{Detail, alone, on_line, of_job_lem, refusal, first}
+use Rattle.job.specs.Refusals.{Detail, alone, on_line, of_job, refusal, first}
 use Rattle.job.specs.declared.Outcome.TheVariants.{Made, Refused}
 use Rattle.job.specs.declared.Detail.TheVariants.{Alone}
 use Rattle.job.proofs.Laid.{sets_first}
@@ -36,7 +36,7 @@ laid_front {vs} {l} {l'} {n} put h =
     rw (put.laid, sets_first l vs h) (take_at vs _ n (sym (put.behind ∙ zero-add (length vs))))
 
 -- Worked out by hand: the line of a number alone, of one with its line and byte, and of one with its job.
-refusals_print : map refused_text (refusal 8 alone ∷ refusal 15 (on_line 812 1) ∷ refusal 20 (of_job_lem 2999) ∷ [])
+refusals_print : map refused_text (refusal 8 alone ∷ refusal 15 (on_line 812 1) ∷ refusal 20 (of_job 2999) ∷ [])
     ≡ bytes "refused\t8\n" ∷ bytes "refused\t15\t812\t1\n" ∷ bytes "refused\t20\t2999\n" ∷ []
 unfolding refused_text fields decimal digits_in
 refusals_print = refl

@@ -5,7 +5,7 @@ use Rattle.protocol.specs.Limits.{column_limit}
 use Rattle.protocol.specs.Entries.{bytes}
 use Rattle.protocol.specs.Text.{tab, feed, decimal, cdm_of, cds_of, list_text}
 use Rattle.protocol.specs.Fault.{Fault, text_fault}
-use Rattle.job.specs.Refusals.{Detail, alone, on_line, of_job_lem, Refusal, refusal, Rule, when, found, first}
+use Rattle.job.specs.Refusals.{Detail, alone, on_line, of_job, Refusal, refusal, Rule, when, found, first}
 use Rattle.job.specs.declared.Outcome.{Outcome}
 use Rattle.print.specs.Printed.{Printed}
 use Rattle.read.specs.Read.{list_of}
@@ -24,7 +24,7 @@ fields (n ∷ ns) = tab ∷ decimal n ++ fields ns
 abbrev pub values : Detail → List ℕ
 values alone = []
 values (on_line line byte) = line ∷ byte ∷ []
-values (of_job_lem job) = job ∷ []
+values (of_job job) = job ∷ []
 
 -- "On a refusal it prints only `refused` TAB number .. LF", and behind the number whatever is told beside it.
 unfoldable pub refused_text : Refusal → List ℕ
