@@ -41,44 +41,28 @@ const LAST_LINE: u64 = 9007199254740991;
 const LAST_JOB: u64 = 36028797018963967;
 
 // The master row of a read of `count` registers of the slave `id`, whose waiting number is `wait`, from `address` on.
-#[unsafe(no_mangle)]
-pub extern "C" fn biss_build_read(
-    id: u8,
-    address: u8,
-    count: usize,
-    wait: u8,
-    out: &mut [u8],
-) -> u64
+pub fn biss_build_read(id: u8, address: u8, count: usize, wait: u8, out: &mut [u8]) -> u64
     ensures { Coded result (λ o. Built (Request.read id address count wait) out.old o out.new) }
 {
     coded(build::build_read(id, address, count, wait, out))
 }
 
 // The master row of a write of `bytes` to the registers of the slave `id`, whose waiting number is `wait`, from `address` on.
-#[unsafe(no_mangle)]
-pub extern "C" fn biss_build_write(
-    id: u8,
-    address: u8,
-    bytes: &[u8],
-    wait: u8,
-    out: &mut [u8],
-) -> u64
+pub fn biss_build_write(id: u8, address: u8, bytes: &[u8], wait: u8, out: &mut [u8]) -> u64
     ensures { Coded result (λ o. Built (Request.write id address bytes.now wait) out.old o out.new) }
 {
     coded(build::build_write(id, address, bytes, wait, out))
 }
 
 // The master row of a command up to its EX, which is sent as asked.
-#[unsafe(no_mangle)]
-pub extern "C" fn biss_build_command(ids: u8, cmd: u8, execute: bool, out: &mut [u8]) -> u64
+pub fn biss_build_command(ids: u8, cmd: u8, execute: bool, out: &mut [u8]) -> u64
     ensures { Coded result (λ o. Built (Request.command ids cmd execute) out.old o out.new) }
 {
     coded(build::build_command(ids, cmd, execute, out))
 }
 
 // A chain of slaves over a master row from power-on.
-#[unsafe(no_mangle)]
-pub extern "C" fn biss_run(
+pub fn biss_run(
     slaves: usize,
     banks: &[u8],
     rights: &[u8],
@@ -94,16 +78,14 @@ pub extern "C" fn biss_run(
 }
 
 // The entries that two recorded rows show, from an opening column on.
-#[unsafe(no_mangle)]
-pub extern "C" fn biss_read(cdm: &[u8], cds: &[u8], opening: usize, out: &mut [u8]) -> u64
+pub fn biss_read(cdm: &[u8], cds: &[u8], opening: usize, out: &mut [u8]) -> u64
     ensures { Coded result (λ o. Listed cdm.now cds.now opening out.old o out.new) }
 {
     coded(read::read(cdm, cds, opening, out))
 }
 
 // The entries that many stretches of one recording show, job by job of a lent table.
-#[unsafe(no_mangle)]
-pub extern "C" fn biss_read_all(
+pub fn biss_read_all(
     cdm: &[u8],
     cds: &[u8],
     jobs: &[Job],
@@ -120,32 +102,28 @@ pub extern "C" fn biss_read_all(
 }
 
 // Two rows as text.
-#[unsafe(no_mangle)]
-pub extern "C" fn biss_rows_to_text(cdm: &[u8], cds: &[u8], out: &mut [u8]) -> u64
+pub fn biss_rows_to_text(cdm: &[u8], cds: &[u8], out: &mut [u8]) -> u64
     ensures { Coded result (λ o. RowsPrinted cdm.now cds.now out.old o out.new) }
 {
     coded(rows_text::rows_to_text(cdm, cds, out))
 }
 
 // The two rows of a text.
-#[unsafe(no_mangle)]
-pub extern "C" fn biss_text_to_rows(text: &[u8], cdm: &mut [u8], cds: &mut [u8]) -> u64
+pub fn biss_text_to_rows(text: &[u8], cdm: &mut [u8], cds: &mut [u8]) -> u64
     ensures { Coded result (λ o. RowsTaken text.now cdm.old cds.old o cdm.new cds.new) }
 {
     coded(rows_text::text_to_rows(text, cdm, cds))
 }
 
 // A list of entries as text.
-#[unsafe(no_mangle)]
-pub extern "C" fn biss_list_to_text(list: &[u8], out: &mut [u8]) -> u64
+pub fn biss_list_to_text(list: &[u8], out: &mut [u8]) -> u64
     ensures { Coded result (λ o. ListPrinted list.now out.old o out.new) }
 {
     coded(list_text::list_to_text(list, out))
 }
 
 // The place of a slave's process data in a chain of so many slaves.
-#[unsafe(no_mangle)]
-pub extern "C" fn biss_channel_of(id: u8, slaves: usize) -> u64
+pub fn biss_channel_of(id: u8, slaves: usize) -> u64
     ensures { result ≡ channel_code (channel_of (record { 0 = id }) slaves) }
 {
     coded_channel(channels::channel_of(SlaveId(id), slaves))
