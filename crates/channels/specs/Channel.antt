@@ -1,9 +1,8 @@
 -- What channel_of returns.
-use Rattle.std.specs.Prelude.{cond, ℕ, ◌+◌, ◌-◌, ltb}
+use Rattle.std.specs.Prelude.{cond, ℕ, ◌-◌, ltb}
 use Rattle.protocol.specs.Limits.{slave_limit, id_count}
 use Rattle.protocol.specs.Channels.{reversed}
 use Rattle.channels.specs.declared.SlaveId.{SlaveId}
-use Rattle.channels.specs.declared.ChannelPlace.{ChannelPlace}
 use Rattle.channels.specs.declared.Channel.{Channel}
 use Rattle.channels.specs.declared.Channel.TheVariants.{Place, Absent, Refused}
 

@@ -1,1 +1,3 @@
+#![tactic(auto)]
+
 // No code: this crate is laws (proofs/) alone.

@@ -17,8 +17,8 @@ use Rattle.protocol.specs.Machine.{listing}
 use Rattle.protocol.specs.Division.{data_bits, fits}
 use Rattle.protocol.specs.Header.{Header, wrong, access, command, header}
 use Rattle.protocol.specs.Commands.{concerns_at, execute_column}
-use Rattle.protocol.specs.Memory.{Memory, chosen, place_of, at, allows, stored, counted}
-use Rattle.protocol.specs.Entries.{Kind, is, Event, event, Place, opened, onward, Entry, note}
+use Rattle.protocol.specs.Memory.{Memory, chosen, place_of, allows, stored, counted}
+use Rattle.protocol.specs.Entries.{Kind, is, Event, Place, opened, onward, Entry, note}
 use Rattle.protocol.specs.Banks.{no_bank, learnt, told_after, bank_of, banked}
 use Rattle.protocol.specs.Account.{Phase, deaf, locks, head, ask_r, ask_w, byte_s, carries, ask_p, acknowledge, ask_ex, Told, slave_at, delay_at, more_at, headed, asked, tell, begun, Step, step, entries_along}
 use Rattle.protocol.specs.Replay.{stored_at, by_place, counted_at, put, MayAt, WhenWritten, Rightful, chosen_at, BanksStand}

@@ -1,1 +1,3 @@
+#![tactic(auto)]
+
 // No code: this crate is definitions (specs/) and theorems about them (proofs/) alone.

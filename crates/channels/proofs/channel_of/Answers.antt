@@ -1,6 +1,5 @@
 -- `channels::channel_of` meets its contract: each result is the definition at the branch's tests.
 -- Assumes nothing.
-use borrow.Author.Rules.{rules}
 use Rattle.laws.proofs.Rules.{cases}
 use Rattle.channels.specs.Channel.{channel_of}
 use Rattle.channels.proofs.channel_of.Goals as goal

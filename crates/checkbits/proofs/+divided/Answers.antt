@@ -1,6 +1,5 @@
 -- `checkbits::divided` meets its contract: it takes one bit and then the rest, and fewer bits are left each time. Assumes nothing.
 use mathlib.Core.Path.{refl}
-use Prim.Native.Nat.{ℕ, ◌<◌}
 use borrow.Author.Rules.{rules}
 use Rattle.protocol.specs.Division.{divide}
 use Rattle.checkbits.proofs.Bitwise.{then_the_rest}

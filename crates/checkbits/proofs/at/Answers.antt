@@ -3,7 +3,6 @@
 use mathlib.Core.Path.{◌≡◌, ap, ◌∙◌}
 use Prim.Native.Nat.{ℕ, ◌+◌, ◌-◌, ◌^◌}
 use native.Mathlib.Omega.{arith}
-use borrow.Author.Rules.{rules}
 use Rattle.protocol.specs.Bits.{bit}
 use Rattle.protocol.specs.Division.{header_bits, divide_bit, divide, remainder, check}
 use Rattle.laws.proofs.Table.{tabulated}

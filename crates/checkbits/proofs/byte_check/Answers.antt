@@ -1,7 +1,6 @@
 -- `checkbits::byte_check` meets its contract: it inverts what remains of eight bits. Assumes nothing.
 use mathlib.Core.Path.{ap}
 use Prim.Native.Nat.{ℕ, ◌-◌}
-use borrow.Author.Rules.{rules}
 use Rattle.protocol.specs.Division.{check, remainder}
 use Rattle.checkbits.proofs.byte_check.Goals as goal
 

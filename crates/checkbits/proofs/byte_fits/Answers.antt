@@ -1,5 +1,4 @@
 -- `checkbits::byte_fits` meets its contract: the check of eight bits looks at eight bits alone. Assumes nothing.
-use borrow.Author.Rules.{rules}
 use Rattle.protocol.proofs.Division.{check_low}
 use Rattle.protocol.specs.Division.{data_bits, fits}
 use Rattle.checkbits.proofs.byte_fits.Goals as goal

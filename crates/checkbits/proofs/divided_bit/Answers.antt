@@ -1,6 +1,5 @@
 -- `checkbits::divided_bit` meets its contract: its two branches are the definition's. Assumes nothing.
 use native.Mathlib.Omega.{arith}
-use borrow.Author.Rules.{rules}
 use borrow.Author.Tests.{lt-ltb, le-ltb}
 use Rattle.checkbits.proofs.Bitwise.{one_bit}
 use Rattle.checkbits.proofs.Words.{bool_lt}

@@ -1,6 +1,5 @@
 -- `checkbits::four` meets its contract: what remains stands at its place. Assumes nothing.
 use native.Mathlib.Omega.{arith}
-use borrow.Author.Rules.{rules}
 use Rattle.checkbits.proofs.Fours.{four_at}
 use Rattle.checkbits.proofs.four.Goals as goal
 

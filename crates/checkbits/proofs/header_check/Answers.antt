@@ -1,7 +1,6 @@
 -- `checkbits::header_check` meets its contract: the check of eleven bits looks at eleven bits alone.
 -- Assumes nothing.
 use mathlib.Core.Path.{◌∙◌}
-use borrow.Author.Rules.{rules}
 use Rattle.protocol.specs.Division.{header_bits}
 use Rattle.protocol.proofs.Division.{check_low}
 use Rattle.checkbits.proofs.header_check.Goals as goal

@@ -1,7 +1,6 @@
 -- `checkbits::header_fits` meets its contract: a header's eleven bits are three, four and four. Assumes nothing.
 use mathlib.Core.Path.{ap}
 use Prim.Native.Nat.{ℕ, ◌-◌, ◌/◌, ◌%◌}
-use borrow.Author.Rules.{rules}
 use lib.Dec.{eqb}
 use Rattle.protocol.specs.Division.{check, remainder, fits}
 use Rattle.checkbits.proofs.Fours.{three_fours}

@@ -1,6 +1,5 @@
 -- `checkbits::pushed` meets its contract: the last fifteen bits one place up, and the new one. Assumes nothing.
 use native.Mathlib.Omega.{arith}
-use borrow.Author.Rules.{rules}
 use Rattle.checkbits.proofs.Words.{bool_lt, pushed_is}
 use Rattle.checkbits.proofs.pushed.Goals as goal
 

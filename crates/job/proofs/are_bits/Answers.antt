@@ -1,5 +1,4 @@
 -- `job::are_bits` meets its contract: no byte is above 1. Assumes nothing.
-use borrow.Author.Rules.{rules}
 use Rattle.job.specs.Bytes.{are_bits}
 use Rattle.job.proofs.are_bits.Goals as goal
 

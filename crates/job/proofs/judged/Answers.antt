@@ -1,6 +1,5 @@
 -- `job::judged` meets its contract. Assumes nothing.
 use mathlib.Core.Option.{or_else}
-use borrow.Author.Rules.{rules}
 use Rattle.job.specs.Refusals.{first}
 use Rattle.job.proofs.Refusals.{counts}
 use Rattle.job.proofs.judged.Goals as goal

@@ -1,12 +1,10 @@
 -- `job::none_above` meets its contract. The loop's invariant: what was found, with what is left of the bytes, decides what all of them
 -- decide. Assumes nothing.
-use mathlib.Core.Path.{◌≡◌, sym, ◌∙◌}
+use mathlib.Core.Path.{◌≡◌}
 use mathlib.Core.Bool.{◌&&◌}
 use Prim.Native.Nat.{◌≤◌, ◌-◌}
-use borrow.Author.Rules.{rules}
 use lib.ListN.{length, drop}
 use Rattle.job.specs.Bytes.{none_above}
-use Rattle.job.proofs.Bits.{one_byte, no_byte}
 use Rattle.job.proofs.none_above.Given as goal
 
 abbrev pub invariant-loop-i : goal.invariant-loop-i

@@ -1,6 +1,5 @@
 -- `job::wrong_row` meets its contract: the lengths, then the bytes. Assumes nothing.
 use mathlib.Core.Path.{◌∙◌}
-use borrow.Author.Rules.{rules}
 use Rattle.job.specs.Rows.{wrong_row}
 use Rattle.job.proofs.Rows.{judged_too}
 use Rattle.job.proofs.wrong_row.Goals as goal

@@ -1,6 +1,5 @@
 -- `job::wrong_rows` meets its contract: the master row, then the answers' bytes. Assumes nothing.
 use mathlib.Core.Path.{◌∙◌}
-use borrow.Author.Rules.{rules}
 use Rattle.job.specs.Rows.{wrong_row, wrong_rows}
 use Rattle.job.proofs.Rows.{judged_too}
 use Rattle.job.proofs.wrong_rows.Goals as goal

@@ -1,6 +1,5 @@
 -- `lists::entry_at` meets its contract: each field stands at its place. Assumes nothing.
 use native.Mathlib.Nat.{add-zero}
-use borrow.Author.Rules.{rules}
 use Rattle.protocol.specs.Pieces.{number_at}
 use Rattle.lists.specs.Fields.{fields_at}
 use Rattle.lists.proofs.entry_at.Goals as goal

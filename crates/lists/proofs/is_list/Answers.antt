@@ -1,9 +1,7 @@
 -- `lists::is_list` meets its contract. The loop's invariant: the entries that are left decide what all of them decide. Assumes nothing.
-use mathlib.Core.Path.{◌≡◌, sym, ◌∙◌}
-use Prim.Native.Nat.{◌-◌, ◌≤◌}
+use mathlib.Core.Path.{sym, ◌∙◌}
 use borrow.Author.Rules.{rules}
-use lib.ListN.{length, drop}
-use Rattle.protocol.specs.Layout.{current, is_list}
+use Rattle.protocol.specs.Layout.{current}
 use Rattle.protocol.proofs.Codec.{list_none}
 use Rattle.lists.proofs.Walk.{good_kind, bad_kind}
 use Rattle.lists.proofs.is_list.Goals as goal

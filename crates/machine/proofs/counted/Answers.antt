@@ -1,6 +1,5 @@
 -- `machine::counted` meets its contract: the zeros are counted up to the fourteenth. Assumes nothing.
 use native.Mathlib.Omega.{arith}
-use borrow.Author.Rules.{rules}
 use Rattle.machine.specs.Zeros.{zeros_after}
 use Rattle.machine.proofs.counted.Goals as goal
 
