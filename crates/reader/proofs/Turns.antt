@@ -1,7 +1,6 @@
 -- Turns: what has to be shown of a branch of the reader's step, where the column is the phase's and where it is not. Assumes nothing.
 use mathlib.Core.Path.{◌≡◌, refl, ap}
 use mathlib.Core.Bool.{Bool}
-use mathlib.Core.List.{List, [], ◌∷◌}
 use Prim.Native.Nat.{ℕ, suc, ◌≤◌, ◌<◌}
 use Rattle.std.specs.Prelude.{◌≢◌}
 use Rattle.protocol.specs.Limits.{rest_zeros}

@@ -1,6 +1,6 @@
 -- What the code's state is to protocol's reader, for the contracts of this crate: nothing here is needed to read what read promises.
 -- Every value of the code's types is some state of the definitions, so no contract asks anything of a state.
-use Rattle.std.specs.Prelude.{◌≡◌, Bool, cond, not, ℕ, suc, ◌+◌, ◌-◌, ◌%◌, ◌^◌, ◌<◌, min}
+use Rattle.std.specs.Prelude.{◌≡◌, Bool, cond, ℕ, suc, ◌+◌, ◌-◌, ◌%◌, ◌^◌, ◌<◌, min}
 use Rattle.std.proofs.Math.Option.{Option, none, some}
 use Rattle.protocol.specs.Limits.{id_count, lock_first, lock_last, address_count, command_count, execute_addressed}
 use Rattle.protocol.specs.Bits.{bit_of}

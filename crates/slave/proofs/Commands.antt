@@ -7,7 +7,6 @@ use native.Mathlib.Omega.{arith}
 use borrow.Author.Tests.{lt-ltb, le-ltb, eq-eqb, ne_eqb, eqb-true}
 use lib.Dec.{ltb, eqb}
 use Rattle.protocol.specs.Limits.{id_count, command_count, acknowledge_first}
-use Rattle.protocol.specs.Bits.{bit}
 use Rattle.protocol.specs.Commands.{selects, concerns, execute_column}
 use Rattle.protocol.specs.Memory.{Memory, counted}
 use Rattle.protocol.specs.Slave as protocol

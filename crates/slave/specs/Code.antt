@@ -1,6 +1,6 @@
 -- What the code's slave stands for in protocol's definitions, for the contracts: nothing here is needed to read what run promises.
 -- Every value of the types stands for something, so that no contract asks for a good state.
-use Rattle.std.specs.Prelude.{◌≡◌, Bool, true, false, cond, not, ◌&&◌, ℕ, ◌+◌, ◌-◌, ◌/◌, ◌%◌, ◌^◌, min, ltb}
+use Rattle.std.specs.Prelude.{◌≡◌, Bool, true, false, cond, ◌&&◌, ℕ, ◌+◌, ◌-◌, ◌/◌, ◌%◌, ◌^◌, min, ltb}
 use Rattle.std.proofs.Math.Option.{Option, none, some}
 use Rattle.protocol.specs.Limits.{header_columns, id_count, address_count, byte_limit, command_count}
 use Rattle.protocol.specs.Bits.{num, bit}

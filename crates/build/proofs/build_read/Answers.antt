@@ -1,5 +1,4 @@
 -- `build::build_read` meets its contract: it is a register access that reads. Assumes nothing.
-use borrow.Author.Rules.{rules}
 use Rattle.build.proofs.Ends.{reading, access_refused, access_room, access_made}
 use Rattle.build.proofs.build_read.Goals as goal
 

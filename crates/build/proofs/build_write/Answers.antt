@@ -1,5 +1,4 @@
 -- `build::build_write` meets its contract: it is a register access that writes. Assumes nothing.
-use borrow.Author.Rules.{rules}
 use Rattle.build.proofs.Ends.{writing, access_refused, access_room, access_made}
 use Rattle.build.proofs.build_write.Goals as goal
 

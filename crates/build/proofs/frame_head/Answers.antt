@@ -1,6 +1,5 @@
 -- `build::frame_head` meets its contract: S above the header's word. Assumes nothing.
 use native.Mathlib.Omega.{arith}
-use borrow.Author.Rules.{rules}
 use Rattle.protocol.proofs.Division.{check_lt}
 use Rattle.protocol.specs.Division.{header_bits, word}
 use Rattle.build.proofs.frame_head.Goals as goal

@@ -1,5 +1,4 @@
 -- `build::outside` meets its contract: each result is the definition at the branch's tests. Assumes nothing.
-use borrow.Author.Rules.{rules}
 use Rattle.build.specs.Build.{outside_access}
 use Rattle.laws.proofs.Rules.{cases}
 use Rattle.build.proofs.outside.Goals as goal

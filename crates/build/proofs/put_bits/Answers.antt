@@ -1,13 +1,10 @@
 -- `build::put_bits` meets its contract. The loop's invariant: the bits that are left, laid on the buffer of now, are all the bits laid on
 -- the first buffer. Assumes nothing.
-use mathlib.Core.List.{map}
 use mathlib.Core.Path.{◌≡◌, ◌∙◌}
-use Prim.Native.Nat.{◌+◌, ◌≤◌}
 use borrow.Author.Rules.{rules}
-use lib.ListN.{length, length-set}
-use lib.Seq.{sets}
+use lib.ListN.{length-set}
 use Rattle.build.proofs.Columns.{bit_laid}
-use Rattle.protocol.specs.Bits.{num, bits}
+use Rattle.protocol.specs.Bits.{bits}
 use Rattle.build.proofs.put_bits.Goals as goal
 
 pub loop-left-preserved : goal.loop-left-preserved

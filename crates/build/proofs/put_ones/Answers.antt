@@ -1,14 +1,9 @@
 -- `build::put_ones` meets its contract. The loop's invariant: the ones that are left, laid on the buffer of now, are all of them laid on
 -- the first buffer. Assumes nothing.
-use mathlib.Core.Bool.{true}
-use mathlib.Core.List.{map}
 use mathlib.Core.Path.{◌≡◌, ◌∙◌}
-use Prim.Native.Nat.{◌+◌, ◌≤◌}
 use borrow.Author.Rules.{rules}
-use lib.ListN.{length, length-set, replicate}
-use lib.Seq.{sets}
+use lib.ListN.{length-set}
 use Rattle.build.proofs.Columns.{one_laid}
-use Rattle.protocol.specs.Bits.{num}
 use Rattle.build.proofs.put_ones.Goals as goal
 
 pub loop-left-preserved : goal.loop-left-preserved

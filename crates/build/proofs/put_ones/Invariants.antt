@@ -2,12 +2,10 @@
 -- the first buffer. Assumes nothing.
 use mathlib.Core.Bool.{true}
 use mathlib.Core.List.{map}
-use mathlib.Core.Path.{◌≡◌, ◌∙◌}
+use mathlib.Core.Path.{◌≡◌}
 use Prim.Native.Nat.{◌+◌, ◌≤◌}
-use borrow.Author.Rules.{rules}
-use lib.ListN.{length, length-set, replicate}
+use lib.ListN.{length, replicate}
 use lib.Seq.{sets}
-use Rattle.build.proofs.Columns.{one_laid}
 use Rattle.protocol.specs.Bits.{num}
 use Rattle.build.proofs.put_ones.Given as goal
 

@@ -1,13 +1,10 @@
 -- `build::put_reads` meets its contract. The loop's invariant: the bytes that are left, laid on the buffer of now, are all the bytes
 -- laid on the first buffer. Assumes nothing.
-use mathlib.Core.Bool.{false}
 use mathlib.Core.Path.{refl}
-use Prim.Native.Nat.{◌-◌, ◌≤◌}
 use borrow.Author.Rules.{rules}
-use lib.ListN.{length-replicate, replicate}
+use lib.ListN.{length-replicate}
 use Rattle.protocol.specs.Memory.{delay_by}
-use Rattle.protocol.specs.Building.{read_bits}
-use Rattle.build.proofs.Rows.{Laying, read_next, none_laid, byte_room, byte_laid, all_laid}
+use Rattle.build.proofs.Rows.{read_next, none_laid, byte_room, byte_laid, all_laid}
 use Rattle.build.proofs.put_reads.Goals as goal
 
 pub loop-i-init : goal.loop-i-init

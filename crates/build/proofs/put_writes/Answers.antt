@@ -2,14 +2,13 @@
 -- laid on the first buffer, and `delay` is how often the next one waits. Assumes nothing.
 use mathlib.Core.Bool.{true}
 use mathlib.Core.List.{map}
-use mathlib.Core.Path.{◌≡◌, refl, sym}
-use Prim.Native.Nat.{◌+◌, ◌-◌, ◌≤◌}
+use mathlib.Core.Path.{refl, sym}
 use native.Mathlib.Omega.{arith}
 use borrow.Author.Rules.{rules}
-use lib.ListN.{length, length-map}
+use lib.ListN.{length-map}
 use Rattle.protocol.specs.Memory.{delay_by}
 use Rattle.protocol.specs.Building.{write_bits}
-use Rattle.build.proofs.Rows.{Laying, later, write_next, none_laid, byte_room, byte_laid, all_laid}
+use Rattle.build.proofs.Rows.{later, write_next, none_laid, byte_room, byte_laid, all_laid}
 use Rattle.build.proofs.put_writes.Goals as goal
 
 pub loop-i-init : goal.loop-i-init

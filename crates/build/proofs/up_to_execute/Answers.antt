@@ -1,5 +1,4 @@
 -- `build::up_to_execute` meets its contract: S above EX, of a broadcast and of any other. Assumes nothing.
-use borrow.Author.Rules.{rules}
 use Rattle.build.proofs.Rows.{broadcast_bits, addressed_bits}
 use Rattle.build.proofs.up_to_execute.Goals as goal
 

@@ -1,5 +1,4 @@
 -- `print::put_decimal` meets its contract, by the two rules of decimal numbers; the number falls with each call. Assumes nothing.
-use Prim.Native.Nat.{ℕ, ◌<◌}
 use mathlib.Core.Path.{ap}
 use borrow.Author.Rules.{rules}
 use lib.ListN.{length}

@@ -1,10 +1,8 @@
 -- `print::put_bytes` meets its contract. The loop's invariant: the bytes that are left, laid on the buffer of now, are all the bytes laid
 -- on the first buffer. Assumes nothing.
-use mathlib.Core.Path.{◌≡◌, sym, ◌∙◌}
-use Prim.Native.Nat.{◌+◌, ◌-◌, ◌≤◌}
+use mathlib.Core.Path.{sym, ◌∙◌}
 use borrow.Author.Rules.{rules}
-use lib.ListN.{length, length-set, drop}
-use lib.Seq.{sets}
+use lib.ListN.{length-set}
 use Rattle.print.proofs.Laid.{byte_laid, none_laid}
 use Rattle.print.proofs.put_bytes.Goals as goal
 

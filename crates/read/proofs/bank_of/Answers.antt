@@ -1,7 +1,6 @@
 -- `read::bank_of` meets its contract. Assumes nothing.
 use mathlib.Core.Path.{◌≡◌, sym, ◌∙◌}
 use mathlib.Core.Bool.{true, false}
-use borrow.Author.Rules.{rules}
 use Rattle.names.specs.Names.{names_bank_of}
 use Rattle.read.specs.Parts.{bank_by}
 use Rattle.read.proofs.bank_of.Goals as goal

@@ -1,6 +1,5 @@
 -- `read::entry_bytes` meets its contract: the layout's bytes, written out. Assumes nothing.
 use mathlib.Core.Path.{refl}
-use borrow.Author.Rules.{rules}
 use Rattle.protocol.specs.Pieces.{in_bytes}
 use Rattle.protocol.specs.Layout.{field_bytes}
 use Rattle.read.specs.Parts.{bytes_for}

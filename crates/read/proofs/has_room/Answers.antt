@@ -1,7 +1,6 @@
 -- `read::has_room` meets its contract: no list has more entries than columns are left. Assumes nothing.
 use mathlib.Core.Path.{refl, sym}
 use native.Mathlib.Omega.{arith}
-use borrow.Author.Rules.{rules}
 use borrow.Author.Tests.{le-leb}
 use lib.ListN.{length}
 use Rattle.read.proofs.Left.{length_listed}

@@ -1,5 +1,4 @@
 -- `read::learnt` meets its contract. Assumes nothing.
-use borrow.Author.Rules.{rules}
 use Rattle.read.specs.Parts.{learnt_by}
 use Rattle.read.proofs.learnt.Goals as goal
 

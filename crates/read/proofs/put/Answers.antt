@@ -1,5 +1,4 @@
 -- `read::put` meets its contract: the entry's bytes laid at a place. Assumes nothing.
-use borrow.Author.Rules.{rules}
 use Rattle.read.proofs.put.Goals as goal
 
 pub returns : goal.returns

@@ -2,7 +2,6 @@
 use mathlib.Core.Path.{◌∙◌}
 use native.Mathlib.Nat.{zero-add}
 use native.Mathlib.Omega.{arith}
-use borrow.Author.Rules.{rules}
 use Rattle.job.proofs.Refusals.{gave_none}
 use Rattle.read.proofs.Ends.{rows_through, rows_refused, room_refused, list_made}
 use Rattle.read.proofs.read.Goals as goal

@@ -1,5 +1,4 @@
 -- `read::rows_refusal` meets its contract, a law for each result. Assumes nothing.
-use borrow.Author.Rules.{rules}
 use Rattle.read.proofs.Ends.{rows_wrong, opened_late, rows_good}
 use Rattle.read.proofs.rows_refusal.Goals as goal
 

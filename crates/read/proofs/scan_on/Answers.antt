@@ -1,13 +1,11 @@
 -- `read::scan_on` meets its contract. The loop's invariant: what is reached from here over the columns that are left is what is reached
 -- from the start over all. Assumes nothing.
 use mathlib.Core.Path.{◌≡◌, refl, sym, ap, ◌∙◌}
-use Prim.Native.Nat.{◌+◌, ◌-◌, ◌^◌, ◌≤◌, ◌<◌}
+use Prim.Native.Nat.{◌+◌, ◌^◌, ◌≤◌, ◌<◌}
 use native.Mathlib.Omega.{arith}
 use borrow.Author.Rules.{rules}
-use lib.ListN.{length, drop}
+use lib.ListN.{length}
 use Rattle.protocol.specs.Limits.{column_limit}
-use Rattle.protocol.specs.Bits.{row_of}
-use Rattle.protocol.specs.Reader.{columns}
 use Rattle.reader.specs.Code.{state_of, place_of}
 use Rattle.read.specs.Parts.{bytes_for, bank_by, learnt_by, kept, Reached, reached}
 use Rattle.read.proofs.Kept.{length_all}
@@ -42,31 +40,31 @@ loop-i-preserved c =
     let joined = c.if-e-ne0 in
     let early = still_early l.reader l.column c.step-t.ensures l.invariant.3 in
     elim joined.branch [
-      then-e-ne0 w ↦
-    let bank : w.bank_of-bank.result ≡ bank_by l.known r.event = w.bank_of-bank.ensures in
-    let up : joined.n ≡ l.n + 1 = w.n-is ∙ w.keep-n.ensures.0 in
-    let told : joined.known ≡ learnt_by l.known r.event = w.known-is ∙ w.learnt-next.ensures in
-    let stored : joined.out ≡ kept l.out l.n (bytes_for (record { column = l.column; start = l.reader.body.start }) r.event (bank_by l.known r.event)) = rw (← bank) (w.out-is ∙ w.keep-n.ensures.1) in (
-      search rules,
-      omega arith,
-      omega arith,
-      early,
-      rw (up, told, stored)
-          (sym (turn_some a.cdm.now a.cds.now l.i c.loop-i-test.true c.requires.0 l.reader l.column r c.step-t.ensures l.known l.n l.out (search rules))
-          ∙ l.invariant.4),
-    )
-    | else-e-ne0 w ↦
-    let silent : joined.n ≡ l.n = cc in
-    let untold : joined.known ≡ l.known = cc in
-    let stays : joined.out ≡ l.out = cc in (
-      search rules,
-      omega arith,
-      omega arith,
-      early,
-      rw (silent, untold, stays)
-          (sym (turn_none a.cdm.now a.cds.now l.i c.loop-i-test.true c.requires.0 l.reader l.column r c.step-t.ensures l.known l.n l.out (search rules))
-          ∙ l.invariant.4),
-    )
+      | then-e-ne0 w ↦
+          let bank : w.bank_of-bank.result ≡ bank_by l.known r.event = w.bank_of-bank.ensures in
+          let up : joined.n ≡ l.n + 1 = w.n-is ∙ w.keep-n.ensures.0 in
+          let told : joined.known ≡ learnt_by l.known r.event = w.known-is ∙ w.learnt-next.ensures in
+          let stored : joined.out ≡ kept l.out l.n (bytes_for (record { column = l.column; start = l.reader.body.start }) r.event (bank_by l.known r.event)) = rw (← bank) (w.out-is ∙ w.keep-n.ensures.1) in (
+            search rules,
+            omega arith,
+            omega arith,
+            early,
+            rw (up, told, stored)
+                (sym (turn_some a.cdm.now a.cds.now l.i c.loop-i-test.true c.requires.0 l.reader l.column r c.step-t.ensures l.known l.n l.out (search rules))
+                ∙ l.invariant.4),
+          )
+      | else-e-ne0 w ↦
+          let silent : joined.n ≡ l.n = cc in
+          let untold : joined.known ≡ l.known = cc in
+          let stays : joined.out ≡ l.out = cc in (
+            search rules,
+            omega arith,
+            omega arith,
+            early,
+            rw (silent, untold, stays)
+                (sym (turn_none a.cdm.now a.cds.now l.i c.loop-i-test.true c.requires.0 l.reader l.column r c.step-t.ensures l.known l.n l.out (search rules))
+                ∙ l.invariant.4),
+          )
     ]
 
 pub shape_of-out : goal.shape_of-out

@@ -1,18 +1,12 @@
 -- `read::scan_on` meets its contract. The loop's invariant: what is reached from here over the columns that are left is what is reached
 -- from the start over all. Assumes nothing.
-use mathlib.Core.Logic.{⊎_elim}
-use mathlib.Core.Path.{◌≡◌, refl, sym, ap, ◌∙◌}
-use Prim.Native.Nat.{◌+◌, ◌-◌, ◌^◌, ◌≤◌, ◌<◌}
-use native.Mathlib.Omega.{arith}
-use borrow.Author.Rules.{rules}
+use mathlib.Core.Path.{◌≡◌}
+use Prim.Native.Nat.{◌+◌, ◌-◌, ◌≤◌}
 use lib.ListN.{length, drop}
-use Rattle.protocol.specs.Limits.{column_limit}
 use Rattle.protocol.specs.Bits.{row_of}
 use Rattle.protocol.specs.Reader.{columns}
 use Rattle.reader.specs.Code.{state_of, place_of}
-use Rattle.read.specs.Parts.{bytes_for, bank_by, learnt_by, kept, Reached, reached}
-use Rattle.read.proofs.Kept.{length_all}
-use Rattle.read.proofs.Left.{still_early, its_kind, early_enough, turn_none, turn_some, none_left}
+use Rattle.read.specs.Parts.{reached}
 use Rattle.read.proofs.scan_on.Given as goal
 
 abbrev pub invariant-loop-i : goal.invariant-loop-i

@@ -1,5 +1,4 @@
 -- `reader::fourteenth` meets its contract: rest, with an entry where a frame was begun. Assumes nothing.
-use borrow.Author.Rules.{rules}
 use Rattle.reader.proofs.Turns.{begun_ends}
 use Rattle.reader.proofs.fourteenth.Goals as goal
 

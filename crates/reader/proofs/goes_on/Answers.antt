@@ -1,6 +1,5 @@
 -- `reader::goes_on` meets its contract: each phase has its function. Assumes nothing.
 use mathlib.Core.Path.{refl}
-use borrow.Author.Rules.{rules}
 use Rattle.protocol.specs.Reader.{look}
 use Rattle.reader.proofs.Turns.{quiet, looked}
 use Rattle.reader.proofs.goes_on.Goals as goal

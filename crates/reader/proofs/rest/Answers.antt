@@ -1,6 +1,5 @@
 -- `reader::rest` meets its contract: S, or rest as before. Assumes nothing.
 use mathlib.Core.Path.{refl}
-use borrow.Author.Rules.{rules}
 use Rattle.reader.proofs.Turns.{quiet}
 use Rattle.reader.proofs.rest.Goals as goal
 

@@ -1,16 +1,12 @@
 -- `run::answer_row` meets its contract. The loop's invariant: the slaves that have yet to go over the row make of the bits of now what
 -- the whole chain makes of zeros, and of the registers and the counts; their bytes are those from `at` on. Assumes nothing.
 use mathlib.Core.List.{map}
-use mathlib.Core.Path.{◌≡◌, refl, sym, ap, ◌∙◌}
-use Prim.Native.Nat.{ℕ, ◌+◌, ◌-◌, ◌≤◌}
-use native.Mathlib.Omega.{arith}
-use borrow.Author.Rules.{rules}
-use lib.ListN.{length, length-replicate, length-take, length-drop, drop, replicate}
+use mathlib.Core.Path.{◌≡◌}
+use Prim.Native.Nat.{◌+◌, ◌-◌, ◌≤◌}
+use lib.ListN.{length, drop}
 use Rattle.protocol.specs.Bits.{num, row_of}
 use Rattle.protocol.specs.Chain.{answers_from, memories_after}
-use Rattle.run.proofs.Rows.{Gone, stored_long, counted_long, bits_next, sent_next, gathered_next, tallied_next}
-use Rattle.run.proofs.Rows.{waiting, gathered, tallied, sent_first, gathered_first, tallied_first, bits_first, rowed}
-use Rattle.run.proofs.Tables.{sizes_next, sizes_none, room}
+use Rattle.run.proofs.Rows.{waiting, gathered, tallied}
 use Rattle.run.proofs.Turned.{all_sent}
 use Rattle.run.specs.Run.{sizes, memories_of, registers_of, counts_of}
 use Rattle.run.proofs.answer_row.Given as goal

@@ -1,11 +1,8 @@
 -- `run::are_counts` meets its contract. The loop's invariant: what is left of the table decides what all of it decides. Assumes nothing.
 use mathlib.Core.Path.{◌≡◌}
 use Prim.Native.Nat.{◌-◌, ◌≤◌}
-use borrow.Author.Rules.{rules}
-use borrow.Author.Tests.{le-leb, lt-leb}
-use lib.ListN.{length, drop, drop_of_length-le}
+use lib.ListN.{length, drop}
 use Rattle.run.specs.Run.{are_counts}
-use Rattle.run.proofs.Tables.{left_next}
 use Rattle.run.proofs.are_counts.Given as goal
 
 abbrev pub invariant-loop-i : goal.invariant-loop-i

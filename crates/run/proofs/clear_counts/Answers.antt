@@ -1,5 +1,4 @@
 -- `run::clear_counts` meets its contract: four zeros are all that four counts hold. Assumes nothing.
-use borrow.Author.Rules.{rules}
 use Rattle.run.proofs.Counts.{all_cleared}
 use Rattle.run.proofs.clear_counts.Goals as goal
 

@@ -1,5 +1,4 @@
 -- `run::count` meets its contract: each way is the definition at the branch's test. Assumes nothing.
-use borrow.Author.Rules.{rules}
 use Rattle.laws.proofs.Rules.{cases}
 use Rattle.protocol.specs.Memory.{one_more}
 use Rattle.run.specs.Parts.{counts_by}

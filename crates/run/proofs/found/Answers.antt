@@ -1,5 +1,4 @@
 -- `run::found` meets its contract: the place at hand is that of the address itself, or it is found anew. Assumes nothing.
-use borrow.Author.Rules.{rules}
 use Rattle.run.specs.Parts.{shown_in}
 use Rattle.run.proofs.found.Goals as goal
 

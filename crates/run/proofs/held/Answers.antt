@@ -1,6 +1,5 @@
 -- `run::held` meets its contract: past the end there is 0. Assumes nothing.
 use mathlib.Core.Path.{sym}
-use borrow.Author.Rules.{rules}
 use lib.ListN.{get_or-eq_default}
 use Rattle.run.proofs.held.Goals as goal
 

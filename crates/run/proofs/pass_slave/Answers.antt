@@ -1,21 +1,16 @@
 -- `run::pass_slave` meets its contract. The loop's invariant: the bits sent so far and those that are left are all that the slave sends,
 -- `at` is the place that the address `known` shows in the registers as they now are, and no count is above the columns so far. Assumes
 -- nothing.
-use mathlib.Core.List.{map, ◌++◌}
 use mathlib.Core.Path.{◌≡◌, refl, sym, ap, ◌∙◌}
-use Prim.Native.Nat.{◌+◌, ◌-◌, ◌≤◌, ◌<◌}
+use Prim.Native.Nat.{◌<◌}
 use native.Mathlib.Omega.{arith}
 use borrow.Author.Rules.{rules}
-use lib.ListN.{length, length-set, take, drop, set}
-use Rattle.protocol.specs.Limits.{command_count}
-use Rattle.protocol.specs.Bits.{num, row_of}
+use lib.ListN.{length, length-set, set}
 use Rattle.protocol.specs.Memory.{uncounted}
-use Rattle.protocol.specs.Slave as protocol
 use Rattle.slave.proofs.Silence.{passes_on}
 use Rattle.slave.specs.Code.{state_of, address_of}
-use Rattle.run.specs.Run.{size_of}
-use Rattle.run.specs.Parts.{sent_by, after_by, memory_by, new_by, counts_by, shown_in}
-use Rattle.run.proofs.Counts.{NoneOver, none_counted, ran_counted, ran_long}
+use Rattle.run.specs.Parts.{memory_by, counts_by, shown_in}
+use Rattle.run.proofs.Counts.{none_counted, ran_counted, ran_long}
 use Rattle.run.proofs.Slaves.{own_step, place_kept, sent_next, after_next, passed}
 use Rattle.run.proofs.pass_slave.Goals as goal
 use Rattle.run.proofs.pass_slave.Goals.{then-silent, else-silent}
@@ -59,37 +54,37 @@ loop-i-preserved c =
     let small = c.loop-i-test.true in
     let room : l.i < length l.cds = omega (arith, l.invariant.3, c.requires.3, small) in
     elim c.if-silent.branch [
-      then-silent w ↦
-    let own = passes_on (memory_by banks l.registers rights wait l.counts) (state_of l.slave) _ _
-    (sym c.silent.ensures ∙ w.if-silent.true) in (
-      search rules,
-      rw w.registers-is l.invariant.1,
-      rw w.counts-is l.invariant.2,
-      rw (w.cds-is, length-set) l.invariant.3,
-      rw w.counts-is (λ code. omega (arith, l.invariant.4 code)),
-      rw (w.registers-is, w.known-is, w.at-is) l.invariant.5,
-      rw (w.registers-is, w.counts-is, w.cds-is, w.slave-is, w.heard-next.ensures) (sym (sent_next _ _ cdm l.cds l.i small room own) ∙ l.invariant.6),
-      rw (w.registers-is, w.counts-is, w.cds-is, w.slave-is, w.heard-next.ensures) (sym (after_next _ _ cdm l.cds l.i small room own) ∙ l.invariant.7),
-    )
-    | else-silent w ↦
-    let p = w.found-at.result in
-    let turn = w.step-turn.result in
-    let here : p ≡ shown_in banks l.registers (address_of l.slave)
-    = w.found-at.ensures ∙ ap (shown_in banks l.registers) w.address-address.ensures.0 in
-    let own = own_step banks l.registers rights wait l.counts l.invariant.1 c.requires.1 l.slave p _ _ turn here
-    (rw w.sees-seen.ensures at w.step-turn.ensures) in
-    let kept : c.if-silent.registers ≡ set l.registers p turn.byte = w.registers-is ∙ w.keep.ensures in
-    let tally : c.if-silent.counts ≡ counts_by turn.ran l.counts = w.counts-is ∙ w.count.ensures in (
-      search rules,
-      rw (kept, length-set) l.invariant.1,
-      rw tally (ran_long turn.ran l.counts ∙ l.invariant.2),
-      rw (w.cds-is, length-set) l.invariant.3,
-      rw tally (ran_counted l.i turn.ran l.counts l.invariant.4),
-      rw (kept, w.known-is, w.at-is, w.address-address.ensures.0)
-          (place_kept banks l.registers rights wait l.counts l.invariant.1 c.requires.1 _ p turn.byte here),
-      rw (kept, tally, w.cds-is, w.slave-is) (sym (sent_next _ _ cdm l.cds l.i small room own) ∙ l.invariant.6),
-      rw (kept, tally, w.cds-is, w.slave-is) (sym (after_next _ _ cdm l.cds l.i small room own) ∙ l.invariant.7),
-    )
+      | then-silent w ↦
+          let own = passes_on (memory_by banks l.registers rights wait l.counts) (state_of l.slave) _ _
+          (sym c.silent.ensures ∙ w.if-silent.true) in (
+            search rules,
+            rw w.registers-is l.invariant.1,
+            rw w.counts-is l.invariant.2,
+            rw (w.cds-is, length-set) l.invariant.3,
+            rw w.counts-is (λ code. omega (arith, l.invariant.4 code)),
+            rw (w.registers-is, w.known-is, w.at-is) l.invariant.5,
+            rw (w.registers-is, w.counts-is, w.cds-is, w.slave-is, w.heard-next.ensures) (sym (sent_next _ _ cdm l.cds l.i small room own) ∙ l.invariant.6),
+            rw (w.registers-is, w.counts-is, w.cds-is, w.slave-is, w.heard-next.ensures) (sym (after_next _ _ cdm l.cds l.i small room own) ∙ l.invariant.7),
+          )
+      | else-silent w ↦
+          let p = w.found-at.result in
+          let turn = w.step-turn.result in
+          let here : p ≡ shown_in banks l.registers (address_of l.slave)
+          = w.found-at.ensures ∙ ap (shown_in banks l.registers) w.address-address.ensures.0 in
+          let own = own_step banks l.registers rights wait l.counts l.invariant.1 c.requires.1 l.slave p _ _ turn here
+          (rw w.sees-seen.ensures at w.step-turn.ensures) in
+          let kept : c.if-silent.registers ≡ set l.registers p turn.byte = w.registers-is ∙ w.keep.ensures in
+          let tally : c.if-silent.counts ≡ counts_by turn.ran l.counts = w.counts-is ∙ w.count.ensures in (
+            search rules,
+            rw (kept, length-set) l.invariant.1,
+            rw tally (ran_long turn.ran l.counts ∙ l.invariant.2),
+            rw (w.cds-is, length-set) l.invariant.3,
+            rw tally (ran_counted l.i turn.ran l.counts l.invariant.4),
+            rw (kept, w.known-is, w.at-is, w.address-address.ensures.0)
+                (place_kept banks l.registers rights wait l.counts l.invariant.1 c.requires.1 _ p turn.byte here),
+            rw (kept, tally, w.cds-is, w.slave-is) (sym (sent_next _ _ cdm l.cds l.i small room own) ∙ l.invariant.6),
+            rw (kept, tally, w.cds-is, w.slave-is) (sym (after_next _ _ cdm l.cds l.i small room own) ∙ l.invariant.7),
+          )
     ]
 
 pub shape_of-registers : goal.shape_of-registers

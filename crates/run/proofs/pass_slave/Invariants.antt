@@ -2,22 +2,16 @@
 -- `at` is the place that the address `known` shows in the registers as they now are, and no count is above the columns so far. Assumes
 -- nothing.
 use mathlib.Core.List.{map, ◌++◌}
-use mathlib.Core.Logic.{⊎_elim}
-use mathlib.Core.Path.{◌≡◌, refl, sym, ap, ◌∙◌}
-use Prim.Native.Nat.{◌+◌, ◌-◌, ◌≤◌, ◌<◌}
-use native.Mathlib.Omega.{arith}
-use borrow.Author.Rules.{rules}
-use lib.ListN.{length, length-set, take, drop, set}
+use mathlib.Core.Path.{◌≡◌}
+use Prim.Native.Nat.{◌-◌, ◌≤◌}
+use lib.ListN.{length, take, drop}
 use Rattle.protocol.specs.Limits.{command_count}
 use Rattle.protocol.specs.Bits.{num, row_of}
-use Rattle.protocol.specs.Memory.{uncounted}
 use Rattle.protocol.specs.Slave as protocol
-use Rattle.slave.proofs.Silence.{passes_on}
-use Rattle.slave.specs.Code.{state_of, address_of}
+use Rattle.slave.specs.Code.{state_of}
 use Rattle.run.specs.Run.{size_of}
-use Rattle.run.specs.Parts.{sent_by, after_by, memory_by, new_by, counts_by, shown_in}
-use Rattle.run.proofs.Counts.{NoneOver, none_counted, ran_counted, ran_long}
-use Rattle.run.proofs.Slaves.{own_step, place_kept, sent_next, after_next, passed}
+use Rattle.run.specs.Parts.{sent_by, after_by, memory_by, new_by, shown_in}
+use Rattle.run.proofs.Counts.{NoneOver}
 use Rattle.run.proofs.pass_slave.Given as goal
 
 abbrev pub invariant-loop-i : goal.invariant-loop-i

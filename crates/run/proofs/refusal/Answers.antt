@@ -1,5 +1,4 @@
 -- `run::refusal` meets its contract: each result is the definition at the branch's tests. Assumes nothing.
-use borrow.Author.Rules.{rules}
 use Rattle.laws.proofs.Rules.{cases}
 use Rattle.job.specs.Refusals.{first}
 use Rattle.run.specs.Run.{refusals}

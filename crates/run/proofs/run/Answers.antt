@@ -1,5 +1,4 @@
 -- `run::run` meets its contract: refused with every lent byte and count as it was, or the row answered. Assumes nothing.
-use borrow.Author.Rules.{rules}
 use Rattle.job.proofs.Refusals.{gave_none}
 use Rattle.run.proofs.Ends.{held, short_row, same_rows, ran_refused, ran_made}
 use Rattle.run.proofs.run.Goals as goal

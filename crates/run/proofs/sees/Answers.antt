@@ -1,5 +1,4 @@
 -- `run::sees` meets its contract: what is held at the place. Assumes nothing.
-use borrow.Author.Rules.{rules}
 use Rattle.run.proofs.sees.Goals as goal
 
 pub returns : goal.returns

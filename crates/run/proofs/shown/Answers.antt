@@ -1,6 +1,5 @@
 -- `run::shown` meets its contract: each result is the definition at the branch's tests. Assumes nothing.
 use native.Mathlib.Omega.{arith}
-use borrow.Author.Rules.{rules}
 use borrow.Author.Tests.{ne_eqb}
 use Rattle.laws.proofs.Rules.{cases}
 use Rattle.protocol.specs.Memory.{place_of}

@@ -1,11 +1,7 @@
 -- `run::sizes` meets its contract. The loop's invariant: the bytes counted and those of what is left of the table are those of all of it.
 -- Assumes nothing.
-use mathlib.Core.Path.{◌≡◌}
-use Prim.Native.Nat.{◌+◌, ◌-◌, ◌*◌, ◌≤◌}
 use native.Mathlib.Omega.{arith}
 use borrow.Author.Rules.{rules}
-use lib.ListN.{length, drop}
-use Rattle.run.specs.Run.{size_of, sizes}
 use Rattle.run.proofs.Tables.{sizes_next, sizes_none}
 use Rattle.run.proofs.sizes.Goals as goal
 

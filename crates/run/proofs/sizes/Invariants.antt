@@ -2,11 +2,8 @@
 -- Assumes nothing.
 use mathlib.Core.Path.{◌≡◌}
 use Prim.Native.Nat.{◌+◌, ◌-◌, ◌*◌, ◌≤◌}
-use native.Mathlib.Omega.{arith}
-use borrow.Author.Rules.{rules}
 use lib.ListN.{length, drop}
 use Rattle.run.specs.Run.{size_of, sizes}
-use Rattle.run.proofs.Tables.{sizes_next, sizes_none}
 use Rattle.run.proofs.sizes.Given as goal
 
 abbrev pub invariant-loop-i : goal.invariant-loop-i

@@ -1,6 +1,5 @@
 -- `slave::meant` meets its contract: each phase's function does its phase. Assumes nothing.
 use mathlib.Core.Path.{refl}
-use borrow.Author.Rules.{rules}
 use Rattle.protocol.specs.Slave.{speak}
 use Rattle.slave.proofs.Turns.{quiet, spoke}
 use Rattle.slave.proofs.meant.Goals as goal

@@ -1,5 +1,4 @@
 -- `slave::rest` meets its contract: a 1 is S, a 0 means nothing. Assumes nothing.
-use borrow.Author.Rules.{rules}
 use Rattle.slave.proofs.Turns.{quiet}
 use Rattle.slave.proofs.rest.Goals as goal
 

@@ -1,6 +1,5 @@
 -- `slave::waited` meets its contract: the zeros are counted, and the fourteenth brings rest. Assumes nothing.
 use mathlib.Core.Path.{sym}
-use borrow.Author.Rules.{rules}
 use Rattle.machine.proofs.Zeros.{timer_on, timer_out}
 use Rattle.slave.specs.Code.{form_by}
 use Rattle.slave.proofs.Silence.{timed_anew}

@@ -1,5 +1,4 @@
 -- `slave::woken` meets its contract: a 1 is S, a 0 changes nothing. Assumes nothing.
-use borrow.Author.Rules.{rules}
 use Rattle.slave.proofs.woken.Goals as goal
 
 pub returns-then-master : goal.returns-then-master

@@ -1,5 +1,4 @@
 -- `reader::Reader::step` meets its contract: by whether the column is the fourteenth zero. Assumes nothing.
-use borrow.Author.Rules.{rules}
 use Rattle.reader.proofs.Turns.{steps_on, steps_end}
 use Rattle.reader.proofs.Reader.step.Goals as goal
 

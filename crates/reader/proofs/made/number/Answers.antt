@@ -1,5 +1,4 @@
 -- `reader::made::number` meets its contract. Assumes nothing.
-use borrow.Author.Rules.{rules}
 use Rattle.reader.proofs.Accesses.{number_is}
 use Rattle.reader.proofs.made.number.Goals as goal
 

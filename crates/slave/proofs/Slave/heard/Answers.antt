@@ -1,6 +1,5 @@
 -- `slave::Slave::heard` meets its contract: at rest a 1 is S, and elsewhere the zeros are counted. Assumes nothing.
 use mathlib.Core.Path.{◌∙◌}
-use borrow.Author.Rules.{rules}
 use Rattle.slave.proofs.Silence.{rest_hears, other_hears}
 use Rattle.slave.proofs.Slave.heard.Goals as goal
 

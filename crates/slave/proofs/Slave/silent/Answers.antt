@@ -1,5 +1,4 @@
 -- `slave::Slave::silent` meets its contract: at power-on, at rest and deaf a slave says nothing, elsewhere it may speak. Assumes nothing.
-use borrow.Author.Rules.{rules}
 use Rattle.slave.proofs.Silence.{may_speak}
 use Rattle.slave.proofs.Slave.silent.Goals as goal
 

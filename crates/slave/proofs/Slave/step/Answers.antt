@@ -1,5 +1,4 @@
 -- `slave::Slave::step` meets its contract: the zeros counted, a column is the phase's, or the fourteenth zero. Assumes nothing.
-use borrow.Author.Rules.{rules}
 use Rattle.slave.proofs.Turns.{steps_on, steps_end}
 use Rattle.slave.proofs.Slave.step.Goals as goal
 

@@ -1,6 +1,5 @@
 -- `slave::access::ask_r` meets its contract. Assumes nothing.
 use mathlib.Core.Path.{refl}
-use borrow.Author.Rules.{rules}
 use Rattle.protocol.specs.Slave.{speak}
 use Rattle.slave.proofs.Turns.{quiet}
 use Rattle.slave.proofs.access.ask_r.Goals as goal

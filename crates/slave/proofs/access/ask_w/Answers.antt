@@ -1,6 +1,5 @@
 -- `slave::access::ask_w` meets its contract, a law for each result. Assumes nothing.
 use mathlib.Core.Path.{refl}
-use borrow.Author.Rules.{rules}
 use Rattle.slave.proofs.Accesses.{ask_alike, ask_allowed, ask_refused}
 use Rattle.slave.proofs.Turns.{spoke}
 use Rattle.slave.proofs.access.ask_w.Goals as goal

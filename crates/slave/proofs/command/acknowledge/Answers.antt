@@ -1,6 +1,5 @@
 -- `slave::command::acknowledge` meets its contract, a law for each result. Assumes nothing.
 use mathlib.Core.Path.{refl}
-use borrow.Author.Rules.{rules}
 use Rattle.slave.proofs.Commands.{acknowledge_ends, acknowledge_on, acknowledge_last}
 use Rattle.slave.proofs.Turns.{spoke}
 use Rattle.slave.proofs.command.acknowledge.Goals as goal

@@ -1,6 +1,5 @@
 -- `slave::command::ask_ex` meets its contract. Assumes nothing.
 use mathlib.Core.Path.{refl}
-use borrow.Author.Rules.{rules}
 use Rattle.slave.proofs.Commands.{asks_EX}
 use Rattle.slave.proofs.Turns.{runs}
 use Rattle.slave.proofs.command.ask_ex.Goals as goal

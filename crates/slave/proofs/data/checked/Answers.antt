@@ -1,6 +1,5 @@
 -- `slave::data::checked` meets its contract: a byte above its check bits is its word. Assumes nothing.
 use native.Mathlib.Omega.{arith}
-use borrow.Author.Rules.{rules}
 use Rattle.protocol.specs.Division.{word}
 use Rattle.slave.proofs.data.checked.Goals as goal
 

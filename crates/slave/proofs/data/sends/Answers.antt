@@ -1,6 +1,5 @@
 -- `slave::data::sends` meets its contract, a law for each result. Assumes nothing.
 use mathlib.Core.Path.{refl}
-use borrow.Author.Rules.{rules}
 use Rattle.slave.proofs.Accesses.{sends_on, sends_last}
 use Rattle.slave.proofs.Turns.{spoke}
 use Rattle.slave.proofs.data.sends.Goals as goal

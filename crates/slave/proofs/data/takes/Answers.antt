@@ -1,6 +1,5 @@
 -- `slave::data::takes` meets its contract, a law for each result. Assumes nothing.
 use mathlib.Core.Path.{refl}
-use borrow.Author.Rules.{rules}
 use Rattle.slave.proofs.Accesses.{takes_on, takes_good, takes_bad}
 use Rattle.slave.proofs.Turns.{spoke, stores}
 use Rattle.slave.proofs.data.takes.Goals as goal
