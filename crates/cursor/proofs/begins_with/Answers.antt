@@ -1,12 +1,8 @@
 -- `cursor::begins_with` meets its contract. The loop's invariant: the bytes that are left of the line decide what all of them decide.
 -- Assumes nothing.
-use mathlib.Core.List.{map}
-use mathlib.Core.Path.{◌≡◌, sym, ◌∙◌}
-use Prim.Native.Nat.{◌-◌, ◌≤◌}
+use mathlib.Core.Path.{sym, ◌∙◌}
 use borrow.Author.Rules.{rules}
-use lib.ListN.{length, drop}
 use Rattle.cursor.proofs.Lines.{byte_differs, byte_same, no_byte, too_short}
-use Rattle.protocol.specs.Text.{exactly, begins}
 use Rattle.cursor.proofs.begins_with.Goals as goal
 
 pub returns-then-text-line : goal.returns-then-text-line

@@ -1,11 +1,9 @@
 -- `cursor::begins_with` meets its contract. The loop's invariant: the bytes that are left of the line decide what all of them decide.
 -- Assumes nothing.
 use mathlib.Core.List.{map}
-use mathlib.Core.Path.{◌≡◌, sym, ◌∙◌}
+use mathlib.Core.Path.{◌≡◌}
 use Prim.Native.Nat.{◌-◌, ◌≤◌}
-use borrow.Author.Rules.{rules}
 use lib.ListN.{length, drop}
-use Rattle.cursor.proofs.Lines.{byte_differs, byte_same, no_byte, too_short}
 use Rattle.protocol.specs.Text.{exactly, begins}
 use Rattle.cursor.proofs.begins_with.Given as goal
 

@@ -1,5 +1,4 @@
 -- `cursor::byte_at` meets its contract: the definition at the branch's test. Assumes nothing.
-use borrow.Author.Rules.{rules}
 use Rattle.laws.proofs.Rules.{cases}
 use Rattle.cursor.proofs.byte_at.Goals as goal
 

@@ -1,5 +1,4 @@
 -- `cursor::end_number` meets its contract: the definition at the branches' tests. Assumes nothing.
-use borrow.Author.Rules.{rules}
 use Rattle.laws.proofs.Rules.{cases}
 use Rattle.cursor.proofs.end_number.Goals as goal
 

@@ -1,5 +1,4 @@
 -- `cursor::fault_number` meets its contract: at the end or before it. Assumes nothing.
-use borrow.Author.Rules.{rules}
 use borrow.Author.Tests.{eq-eqb, ne_eqb}
 use Rattle.cursor.proofs.fault_number.Goals as goal
 

@@ -1,6 +1,5 @@
 -- `cursor::is_column` meets its contract: the definition at the branches' tests, byte by byte. Assumes nothing.
 use mathlib.Core.Bool.{and-true}
-use borrow.Author.Rules.{rules}
 use borrow.Author.Tests.{eq-eqb, ne_eqb}
 use Rattle.protocol.specs.Text.{begins}
 use Rattle.cursor.proofs.is_column.Goals as goal

@@ -2,7 +2,6 @@
 use Prim.Native.Nat.{◌%◌}
 use native.Mathlib.Omega.{arith}
 use mathlib.Core.Path.{refl}
-use borrow.Author.Rules.{rules}
 use Rattle.protocol.proofs.Stop.{column_form_lem}
 use Rattle.cursor.proofs.Lines.{name_form, digit_form}
 use Rattle.cursor.proofs.is_formed.Goals as goal

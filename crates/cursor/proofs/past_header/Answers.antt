@@ -1,6 +1,5 @@
 -- `cursor::past_header` meets its contract: the header, where the text begins with it. Assumes nothing.
 use mathlib.Core.Path.{sym, ◌∙◌}
-use borrow.Author.Rules.{rules}
 use Rattle.cursor.proofs.Lines.{header_formed, nowhere}
 use Rattle.cursor.proofs.past_header.Goals as goal
 

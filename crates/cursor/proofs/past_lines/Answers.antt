@@ -1,10 +1,7 @@
 -- `cursor::past_lines` meets its contract. The loop's invariant: what is left has the stop of all. Assumes nothing.
-use mathlib.Core.Path.{◌≡◌, sym, ◌∙◌}
-use Prim.Native.Nat.{◌+◌, ◌-◌, ◌%◌, ◌≤◌}
+use mathlib.Core.Path.{sym, ◌∙◌}
 use borrow.Author.Rules.{rules}
-use lib.ListN.{length, drop}
 use Rattle.cursor.proofs.Lines.{line_formed}
-use Rattle.protocol.specs.Fault.{stop}
 use Rattle.cursor.proofs.past_lines.Goals as goal
 
 pub loop-i-preserved : goal.loop-i-preserved

@@ -1,9 +1,7 @@
 -- `cursor::past_lines` meets its contract. The loop's invariant: what is left has the stop of all. Assumes nothing.
-use mathlib.Core.Path.{◌≡◌, sym, ◌∙◌}
+use mathlib.Core.Path.{◌≡◌}
 use Prim.Native.Nat.{◌+◌, ◌-◌, ◌%◌, ◌≤◌}
-use borrow.Author.Rules.{rules}
 use lib.ListN.{length, drop}
-use Rattle.cursor.proofs.Lines.{line_formed}
 use Rattle.protocol.specs.Fault.{stop}
 use Rattle.cursor.proofs.past_lines.Given as goal
 

@@ -1,5 +1,4 @@
 -- `cursor::stop_in` meets its contract: a walk with few bytes before it. Assumes nothing.
-use borrow.Author.Rules.{rules}
 use Rattle.cursor.proofs.Lines.{stop_far}
 use Rattle.cursor.proofs.stop_in.Goals as goal
 

@@ -1,10 +1,7 @@
 -- `cursor::walk` meets its contract. The loop's invariant: what is left has the stop of all. Assumes nothing.
-use mathlib.Core.Path.{◌≡◌, sym, ◌∙◌}
-use Prim.Native.Nat.{◌+◌, ◌-◌, ◌≤◌}
+use mathlib.Core.Path.{sym, ◌∙◌}
 use borrow.Author.Rules.{rules}
-use lib.ListN.{length, drop}
 use Rattle.cursor.proofs.Lines.{byte_formed, byte_stops, end_stops}
-use Rattle.protocol.specs.Fault.{stop}
 use Rattle.cursor.proofs.walk.Goals as goal
 
 pub past_lines-p-requires : goal.past_lines-p-requires

@@ -1,14 +1,13 @@
 -- `list_text::list_to_text` meets its contract: the header, and then the entries' lines. Assumes nothing.
-use mathlib.Core.Bool.{Bool, true, false}
+use mathlib.Core.Bool.{Bool}
 use mathlib.Core.List.{List}
 use mathlib.Core.Path.{◌≡◌, sym, ap, ◌∙◌}
-use Prim.Native.Nat.{ℕ, ◌+◌, ◌≤◌}
+use Prim.Native.Nat.{ℕ, ◌+◌}
 use borrow.Author.Rules.{rules}
 use borrow.Author.Tests.{ltb-false}
 use lib.Dec.{ltb}
 use lib.ListN.{length}
-use Rattle.protocol.specs.Banks.{Banked}
-use Rattle.protocol.specs.Layout.{current, entries_in, is_list}
+use Rattle.protocol.specs.Layout.{current, entries_in}
 use Rattle.protocol.specs.Text.{list_header, entry_lines, list_text}
 use Rattle.job.proofs.Refusals.{ended_given}
 use Rattle.print.proofs.Ends.{printed_made}

@@ -1,14 +1,9 @@
 -- `list_text::put_lines` meets its contract. The loop's invariant: the lines that are left, laid on the buffer of now, are all the lines
 -- laid on the first buffer. Assumes nothing.
-use mathlib.Core.Bool.{true}
-use mathlib.Core.Path.{◌≡◌}
-use Prim.Native.Nat.{◌-◌, ◌≤◌}
 use borrow.Author.Rules.{rules}
-use lib.ListN.{length, drop}
-use Rattle.protocol.specs.Layout.{current, is_list}
 use Rattle.lists.proofs.Walk.{kind_here, list_behind}
-use Rattle.list_text.proofs.Parts.{Left, left_all, left_same, left_none}
-use Rattle.list_text.proofs.Lists.{lines_from, line_room, line_behind, line_none}
+use Rattle.list_text.proofs.Parts.{left_all, left_same, left_none}
+use Rattle.list_text.proofs.Lists.{line_room, line_behind, line_none}
 use Rattle.list_text.proofs.put_lines.Goals as goal
 
 pub loop-i-init : goal.loop-i-init

@@ -3,12 +3,10 @@
 use mathlib.Core.Bool.{true}
 use mathlib.Core.Path.{◌≡◌}
 use Prim.Native.Nat.{◌-◌, ◌≤◌}
-use borrow.Author.Rules.{rules}
 use lib.ListN.{length, drop}
 use Rattle.protocol.specs.Layout.{current, is_list}
-use Rattle.lists.proofs.Walk.{kind_here, list_behind}
-use Rattle.list_text.proofs.Parts.{Left, left_all, left_same, left_none}
-use Rattle.list_text.proofs.Lists.{lines_from, line_room, line_behind, line_none}
+use Rattle.list_text.proofs.Parts.{Left}
+use Rattle.list_text.proofs.Lists.{lines_from}
 use Rattle.list_text.proofs.put_lines.Given as goal
 
 abbrev pub invariant-loop-i : goal.invariant-loop-i

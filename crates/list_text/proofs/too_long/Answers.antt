@@ -1,16 +1,13 @@
 -- `list_text::too_long` meets its contract. The loop's invariant: the lines that are left need more than the room that is left exactly
 -- where all of them need more than all of it. Assumes nothing.
-use mathlib.Core.Bool.{true}
-use mathlib.Core.Path.{◌≡◌, sym, ap, ◌∙◌}
-use Prim.Native.Nat.{◌+◌, ◌-◌, ◌≤◌}
+use mathlib.Core.Path.{sym, ap, ◌∙◌}
 use native.Mathlib.Omega.{arith}
 use borrow.Author.Rules.{rules}
 use borrow.Author.Tests.{lt-ltb, le-ltb}
 use lib.Dec.{ltb}
-use lib.ListN.{length, drop}
-use Rattle.protocol.specs.Layout.{current, is_list}
+use lib.ListN.{length}
 use Rattle.lists.proofs.Walk.{kind_here, list_behind}
-use Rattle.list_text.proofs.Lists.{lines_from, lines_length, line_none, less_room}
+use Rattle.list_text.proofs.Lists.{lines_length, line_none, less_room}
 use Rattle.list_text.proofs.too_long.Goals as goal
 
 pub returns-then-room-before : goal.returns-then-room-before

@@ -1,16 +1,12 @@
 -- `list_text::too_long` meets its contract. The loop's invariant: the lines that are left need more than the room that is left exactly
 -- where all of them need more than all of it. Assumes nothing.
 use mathlib.Core.Bool.{true}
-use mathlib.Core.Path.{◌≡◌, sym, ap, ◌∙◌}
+use mathlib.Core.Path.{◌≡◌}
 use Prim.Native.Nat.{◌+◌, ◌-◌, ◌≤◌}
-use native.Mathlib.Omega.{arith}
-use borrow.Author.Rules.{rules}
-use borrow.Author.Tests.{lt-ltb, le-ltb}
 use lib.Dec.{ltb}
 use lib.ListN.{length, drop}
 use Rattle.protocol.specs.Layout.{current, is_list}
-use Rattle.lists.proofs.Walk.{kind_here, list_behind}
-use Rattle.list_text.proofs.Lists.{lines_from, lines_length, line_none, less_room}
+use Rattle.list_text.proofs.Lists.{lines_from}
 use Rattle.list_text.proofs.too_long.Given as goal
 
 abbrev pub invariant-loop-i : goal.invariant-loop-i

@@ -1,9 +1,9 @@
 -- `rows_text::put_columns` meets its contract. The loop's invariant: the lines that are left, laid on the buffer of now, are all the lines
 -- laid on the first buffer. Assumes nothing.
-use mathlib.Core.Path.{◌≡◌, sym, ap, ◌∙◌}
-use Prim.Native.Nat.{◌+◌, ◌-◌, ◌*◌, ◌≤◌}
+use mathlib.Core.Path.{sym, ap, ◌∙◌}
+use Prim.Native.Nat.{◌+◌}
 use borrow.Author.Rules.{rules}
-use lib.ListN.{length, drop}
+use lib.ListN.{drop}
 use lib.Seq.{sets}
 use Rattle.rows_text.proofs.Columns.{column_more, column_none, lines_length}
 use Rattle.protocol.specs.Text.{column_lines}

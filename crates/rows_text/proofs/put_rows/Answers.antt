@@ -1,12 +1,10 @@
 -- `rows_text::put_rows` meets its contract. The loop's invariant: the digits that are left, laid on the rows of now, are all the digits
 -- laid on the first rows. Assumes nothing.
-use mathlib.Core.Path.{◌≡◌, sym, ◌∙◌}
-use Prim.Native.Nat.{◌+◌, ◌-◌, ◌*◌, ◌≤◌}
+use mathlib.Core.Path.{sym, ◌∙◌}
 use borrow.Author.Rules.{rules}
-use lib.ListN.{length, length-set, drop}
-use lib.Seq.{sets}
+use lib.ListN.{length-set}
 use Rattle.rows_text.proofs.Columns.{cdm_laid, cds_laid, digits_laid_none}
-use Rattle.protocol.specs.Text.{row_in, cdm_of, cds_of}
+use Rattle.protocol.specs.Text.{cdm_of, cds_of}
 use Rattle.rows_text.proofs.put_rows.Goals as goal
 
 pub loop-k-preserved : goal.loop-k-preserved
