@@ -1,5 +1,5 @@
 -- What an argument on the command line asks of the indexing program.
-use Rattle.std.specs.Prelude.{Bool, cond, ◌&&◌, List, [], ◌∷◌, map, ℕ, ◌+◌, ◌-◌, ◌*◌, min, ltb, leb, eqb, length}
+use Rattle.std.specs.Prelude.{Bool, cond, ◌&&◌, List, [], ◌∷◌, map, ℕ, ◌+◌, ◌-◌, ◌*◌, min, leb, eqb, length}
 use Rattle.protocol.specs.Limits.{column_limit}
 use Rattle.protocol.specs.Entries.{bytes}
 use Rattle.protocol.specs.Text.{digit, Form, begins}

@@ -1,6 +1,5 @@
 -- `argument::asked_by` meets its contract: help, no number, or the number. Assumes nothing.
 use mathlib.Core.Path.{sym, ◌∙◌}
-use borrow.Author.Rules.{rules}
 use Rattle.argument.proofs.Digits.{asks_help, asks_nothing, asks_number}
 use Rattle.argument.proofs.asked_by.Goals as goal
 

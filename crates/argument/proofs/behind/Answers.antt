@@ -1,5 +1,4 @@
 -- `argument::behind` meets its contract. Assumes nothing.
-use borrow.Author.Rules.{rules}
 use Rattle.argument.proofs.Digits.{digit_low}
 use Rattle.argument.proofs.behind.Goals as goal
 

@@ -1,6 +1,5 @@
 -- `argument::is_help` meets its contract. Assumes nothing.
 use borrow.Author.Tests.{eq-eqb, ne_eqb}
-use borrow.Author.Rules.{rules}
 use Rattle.argument.proofs.is_help.Goals as goal
 
 pub returns-then-argument-eq-HELP : goal.returns-then-argument-eq-HELP

@@ -1,11 +1,8 @@
 -- `argument::number` meets its contract: what is left of the argument asks, behind the number so far, what the whole argument asks. Assumes
 -- nothing.
-use mathlib.Core.Path.{◌≡◌, sym, ◌∙◌}
-use Prim.Native.Nat.{◌-◌, ◌≤◌}
+use mathlib.Core.Path.{sym, ◌∙◌}
 use native.Mathlib.Nat.{min-le_right}
 use borrow.Author.Rules.{rules}
-use lib.ListN.{length, drop}
-use Rattle.argument.specs.Argument.{farthest, asked_from}
 use Rattle.argument.proofs.Digits.{digit_more, no_digit, no_more}
 use Rattle.argument.proofs.number.Goals as goal
 

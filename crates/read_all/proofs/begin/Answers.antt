@@ -1,5 +1,4 @@
 -- `read_all::begin` meets its contract, a law for each result. Assumes nothing.
-use borrow.Author.Rules.{rules}
 use Rattle.read_all.proofs.Begins.{begun_uneven, begun_unequal, begun_empty, begun_first}
 use Rattle.read_all.proofs.begin.Goals as goal
 

@@ -1,6 +1,5 @@
 -- `read_all::counted` meets its contract: the entries of the stretch are counted, and the buffer stays. Assumes nothing.
 use mathlib.Core.Path.{ap, ◌∙◌}
-use borrow.Author.Rules.{rules}
 use borrow.Author.Tests.{lt-ltb, le-ltb}
 use lib.ListN.{length}
 use Rattle.read_all.specs.Passes.{counted}

@@ -1,6 +1,5 @@
 -- `read_all::judged` meets its contract: a refusal of its own ends the call at the job. Assumes nothing.
 use mathlib.Core.Path.{◌∙◌}
-use borrow.Author.Rules.{rules}
 use Rattle.read_all.proofs.Cut.{given_stops, none_given}
 use Rattle.read_all.proofs.judged.Goals as goal
 

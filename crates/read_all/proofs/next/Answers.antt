@@ -1,5 +1,4 @@
 -- `read_all::next` meets its contract, case by case. Assumes nothing.
-use borrow.Author.Rules.{rules}
 use borrow.Author.Tests.{lt-ltb, le-ltb, eq-eqb, ne_eqb}
 use Rattle.read_all.specs.Passes.{following}
 use Rattle.read_all.proofs.next.Goals as goal

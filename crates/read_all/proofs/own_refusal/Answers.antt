@@ -1,5 +1,4 @@
 -- `read_all::own_refusal` meets its contract: clear further than the stretch goes, or judged exactly. Assumes nothing.
-use borrow.Author.Rules.{rules}
 use Rattle.job.proofs.Refusals.{gave_none}
 use Rattle.read_all.proofs.Cut.{own_given, clear_wider}
 use Rattle.read_all.proofs.own_refusal.Goals as goal

@@ -2,7 +2,6 @@
 use mathlib.Core.Bool.{false}
 use mathlib.Core.Path.{ap, ◌∙◌}
 use Prim.Native.Nat.{ℕ}
-use borrow.Author.Rules.{rules}
 use borrow.Author.Tests.{eq-eqb, ne_eqb}
 use Rattle.read_all.specs.Passes.{started, behind}
 use Rattle.read_all.proofs.pass_over.Goals as goal
@@ -21,8 +20,8 @@ unfolding behind
 returns-after-crowded c =
     rw (ne_eqb _ _ c.if-state-eq-PLACING.false, ne_eqb _ _ c.if-state-eq-WRITING.false, eq-eqb _ _ c.if-state-eq-JUDGING.true)
     (elim c.if-crowded.branch [
-      then-crowded w ↦ rw w.if-crowded.true (c.start-then-state-eq-JUDGING.ensures ∙ ap (λ (p : ℕ). started p false) w.start-is)
-    | else-crowded w ↦ rw w.if-crowded.false (c.start-then-state-eq-JUDGING.ensures ∙ ap (λ (p : ℕ). started p false) w.start-is)
+      | then-crowded w ↦ rw w.if-crowded.true (c.start-then-state-eq-JUDGING.ensures ∙ ap (λ (p : ℕ). started p false) w.start-is)
+      | else-crowded w ↦ rw w.if-crowded.false (c.start-then-state-eq-JUDGING.ensures ∙ ap (λ (p : ℕ). started p false) w.start-is)
     ])
 
 pub returns-else-state-eq-JUDGING : goal.returns-else-state-eq-JUDGING

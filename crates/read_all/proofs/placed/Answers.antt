@@ -1,6 +1,5 @@
 -- `read_all::placed` meets its contract, case by case. Assumes nothing.
 use mathlib.Core.Path.{sym, ◌∙◌}
-use borrow.Author.Rules.{rules}
 use borrow.Author.Tests.{lt-ltb, le-ltb}
 use Rattle.job.specs.Refusals.{first}
 use Rattle.read_all.specs.ReadAll.{place_refusals}

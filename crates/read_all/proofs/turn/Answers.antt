@@ -1,7 +1,6 @@
 -- `read_all::turn` meets its contract: the pass's question, and on to the next job. Assumes nothing.
 use mathlib.Core.Path.{refl, ap, ◌∙◌}
 use Prim.Native.Nat.{◌^◌}
-use borrow.Author.Rules.{rules}
 use lib.ListN.{length, length-set}
 use Rattle.read_all.proofs.Turns.{placing_room, placed_step, judging_inside, judged_step, counting_good, counted_step, writing_good, written_step, at_most, turned}
 use Rattle.read_all.proofs.turn.Goals as goal

@@ -1,5 +1,4 @@
 -- `report::long_report` meets its contract. Assumes nothing.
-use borrow.Author.Rules.{rules}
 use Rattle.report.proofs.Rows.{long_none, long_bad}
 use Rattle.report.proofs.long_report.Goals as goal
 

@@ -1,6 +1,5 @@
 -- `report::report` meets its contract: the report on the rows that the text gives, or the refusal. Assumes nothing.
 use mathlib.Core.Path.{sym}
-use borrow.Author.Rules.{rules}
 use lib.Seq.{length-take-le}
 use Rattle.report.proofs.Rows.{says, rows_right, reports_rows}
 use Rattle.report.proofs.report.Goals as goal

@@ -1,5 +1,4 @@
 -- `report::whole` meets its contract. Assumes nothing.
-use borrow.Author.Rules.{rules}
 use Rattle.report.proofs.Lines.{crowded, roomy}
 use Rattle.report.proofs.whole.Goals as goal
 
