@@ -1,5 +1,4 @@
 -- `biss::biss_channel_of` meets its contract: what channel_of returns, coded. Assumes nothing.
-use borrow.Author.Rules.{rules}
 use Rattle.biss.proofs.biss_channel_of.Goals as goal
 
 pub returns : goal.returns

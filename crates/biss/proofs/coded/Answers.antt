@@ -1,5 +1,4 @@
 -- `biss::coded` meets its contract, case by case. Assumes nothing.
-use borrow.Author.Rules.{rules}
 use Rattle.biss.specs.Coded.{code}
 use Rattle.biss.proofs.coded.Goals as goal
 

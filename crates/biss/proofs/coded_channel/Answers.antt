@@ -1,5 +1,4 @@
 -- `biss::coded_channel` meets its contract, case by case. Assumes nothing.
-use borrow.Author.Rules.{rules}
 use Rattle.biss.specs.Coded.{code, channel_code}
 use Rattle.biss.proofs.coded_channel.Goals as goal
 
