@@ -1,6 +1,6 @@
 -- What the scope demands, of the jobs' own results: byte rows, chains of up to 16 slaves, registers and rights as they are lent. `Made`
 -- says that a job accepted; a name with a prime, or `after`, is what it left in the buffer that was lent to it. That fourteen zeros bring
--- every slave and the reader to rest speaks of states and not of results: protocol's slaves-rest and reader-rests. Assumes nothing.
+-- every slave and the reader to rest speaks of states and not of results: protocol's slaves_rest and reader_rests. Assumes nothing.
 use mathlib.Core.Path.{◌≡◌, refl, sym, ap, ◌∙◌}
 use mathlib.Core.Bool.{true, false}
 use mathlib.Core.List.{List, map}

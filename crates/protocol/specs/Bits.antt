@@ -24,6 +24,6 @@ bits zero v = []
 bits (suc n) v = bit n v ∷ bits n v
 
 -- A machine collects bits as they come, the newest lowest, and keeps the last sixteen: nothing that the paper collects is longer
--- (proofs/Words: push-keeps).
+-- (proofs/Words: push_keeps).
 unfoldable pub push : ℕ → Bool → ℕ
 push w b = (2 * w + num b) % 2 ^ 16

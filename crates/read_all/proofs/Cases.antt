@@ -50,7 +50,7 @@ lock column start = record { entry = record { place = record { column = column; 
 abbrev given : List Name → (room counts : ℕ) → Option Refusal
 given names room counts = first (refusals cdm cds (map job_of names) room counts)
 
-tables-hold :
+tables_hold :
     -- 20 of a later job before 7 of an earlier one, and 32 before both
     (given (wrong ∷ shown ∷ long ∷ []) 9 3 ≡ some (refusal 20 (of_job 2)))
     × (given (wrong ∷ shown ∷ long ∷ []) 9 2 ≡ some (refusal 32 alone))
@@ -65,4 +65,4 @@ tables-hold :
     -- each with its own count
     × (counts_of cdm cds (map job_of (shown ∷ empty ∷ sooner ∷ [])) ≡ 1 ∷ 0 ∷ 1 ∷ [])
 unfolding refusals first_job place_refusals own_refusals rows_refusals wrong_rows row_rules are_bits none_above first or_else lists_of counts_of list_for list_of row_of list_bytes joined bytes_of field_bytes in_bytes push judge timer Reader.seen Reader.locked Reader.look Reader.step Reader.columns Reader.entries Reader.entries_from Reader.list_from banked learnt bank_of
-tables-hold = (refl, refl, refl, refl, refl, refl, refl, refl)
+tables_hold = (refl, refl, refl, refl, refl, refl, refl, refl)

@@ -1,5 +1,5 @@
 -- The promise of text to rows has one result: two results that meet it are equal, in what is returned and in every lent byte; and so has
--- that of a fault's detail. (Rows to text promises what every printing job does: print's printed-unique.) Assumes nothing.
+-- that of a fault's detail. (Rows to text promises what every printing job does: print's printed_unique.) Assumes nothing.
 use mathlib.Core.Path.{◌≡◌}
 use mathlib.Core.List.{List}
 use Prim.Native.Nat.{ℕ}

@@ -1,5 +1,5 @@
 -- A column counts at most one execution, so that no count is above the columns that have passed: however long a row is, 32 bits hold them
--- as long as they hold its columns. What a run leaves so is in demands (counts-bounded). Assumes nothing.
+-- as long as they hold its columns. What a run leaves so is in demands (counts_bounded). Assumes nothing.
 use mathlib.Core.Path.{◌≡◌, refl}
 use mathlib.Core.List.{List, [], ◌∷◌}
 use Prim.Native.Nat.{ℕ, zero, suc, ◌+◌, ◌≤◌}
