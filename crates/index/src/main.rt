@@ -1,4 +1,6 @@
 // The indexing program: two rows as text in, the list of what they show out. `index --help` says how.
-fn main() {
-    intake::index();
+#![tactic(auto)]
+
+fn main(rt: HostRuntime) {
+    intake::index(&rt);
 }

@@ -1,4 +1,6 @@
 // The indexing program: asked for help.
-fn main() {
-    intake::index();
+#![tactic(auto)]
+
+fn main(rt: HostRuntime) {
+    intake::index(&rt);
 }
