@@ -5,13 +5,12 @@ use mathlib.Core.Option.{none}
 use Prim.Native.Nat.{ℕ, ◌≤◌}
 use lib.ListN.{length}
 use lib.Seq.{length-take-le}
-use Rattle.io.specs.Counts.{IsPrefixLen}
 use Rattle.job.specs.Refusals.{Rule, lent, lent_after}
 use Rattle.job.specs.declared.Outcome.{Outcome}
 use Rattle.job.specs.declared.Outcome.TheVariants.{Made, Refused}
 use Rattle.job.proofs.Refusals.{result_fits, was_made}
 use Rattle.print.specs.Printed.{Printed}
-use Rattle.intake.specs.Counted.{Printable}
+use Rattle.intake.specs.Counted.{IsPrefixLen, Printable}
 
 -- A number up to a buffer's length counts bytes at its start.
 pub counts : (n : ℕ) (buffer : List ℕ) → n ≤ length buffer → IsPrefixLen n buffer

@@ -6,8 +6,7 @@ mod words;
 
 ghost use Rattle.std.specs.Prelude.{◌+◌, ◌≤◌, ◌^◌, ◌≡◌, length};
 ghost use Rattle.report.specs.Report.{report_room};
-ghost use Rattle.io.specs.Counts.{IsPrefixLen};
-ghost use Rattle.intake.specs.Counted.{Printable};
+ghost use Rattle.intake.specs.Counted.{IsPrefixLen, Printable};
 
 use argument::Asked;
 use job::Outcome;
