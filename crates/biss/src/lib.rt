@@ -1,7 +1,6 @@
-// The jobs as C and Rust call them: numbers, and a slice as a pointer and a length. Each returns one number: how many columns, bytes
-// or entries were made, or 2 ^ 63 and the number of the refusal; for what is wrong with a text also its line, times 512, and its byte in
-// that line, times 64; for what is wrong with a job of a table also 2 ^ 62 and the job, times 64. Beside them the channel place of a
-// slave.
+// The jobs, each returning one number: how many columns, bytes or entries were made, or 2 ^ 63 and the number of the refusal; for what is
+// wrong with a text also its line, times 512, and its byte in that line, times 64; for what is wrong with a job of a table also 2 ^ 62 and
+// the job, times 64. Beside them the channel place of a slave. biss_c exports them to C and Rust.
 #![tactic(auto)]
 
 ghost use Rattle.std.specs.Prelude.{◌≡◌, ◌≤◌, min};

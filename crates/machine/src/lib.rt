@@ -23,7 +23,7 @@ pub const CHECKS: u64 = 16;
 // Locks: "slaves past the eighth have none".
 pub const IDS: u64 = 8;
 
-// Locks, the house rule for the place, as `lockFirst` in protocol's Limits: the column after S that answers IDL0 ..
+// Locks, the house rule for the place, as `lock_first` in protocol's Limits: the column after S that answers IDL0 ..
 pub const LOCK_FIRST: u64 = 1;
 
 // .. and the one that answers IDL8.
@@ -41,7 +41,7 @@ pub const BYTES: u64 = 64;
 // 000: "it is possible to trigger 4 different commands".
 pub const COMMANDS: u64 = 4;
 
-// Request 07, as `acknowledgeFirst` in protocol's Limits: the column after a command's S that answers IDA0 ..
+// Request 07, as `acknowledge_first` in protocol's Limits: the column after a command's S that answers IDA0 ..
 pub const ACKNOWLEDGE_FIRST: u64 = 0;
 
 // .. the one that holds EX of an addressed command ..

@@ -41,7 +41,7 @@ next_address address = (address % address_count + 1) % address_count
 abbrev pub next_column : ℕ → ℕ
 next_column column = min column header_columns + 1
 
--- A byte's bits are counted down from topBit; a count is read below the next power of two.
+-- A byte's bits are counted down from top_bit; a count is read below the next power of two.
 abbrev pub counts : ℕ
 counts = 16
 

@@ -1,5 +1,4 @@
--- `argument::number` meets its contract: what is left of the argument asks, behind the number so far, what the whole argument asks. Assumes
--- nothing.
+-- `argument::number` meets its contract. Assumes nothing.
 use mathlib.Core.Path.{sym, ◌∙◌}
 use native.Mathlib.Nat.{min-le_right}
 use borrow.Author.Rules.{rules}

@@ -1,5 +1,4 @@
--- `argument::number` meets its contract: what is left of the argument asks, behind the number so far, what the whole argument asks. Assumes
--- nothing.
+-- The loop's invariant of `argument::number`: what is left of the argument asks, behind the number so far, what the whole argument asks.
 use mathlib.Core.Path.{◌≡◌}
 use Prim.Native.Nat.{◌-◌, ◌≤◌}
 use lib.ListN.{length, drop}

@@ -1,5 +1,4 @@
--- `build::put_bits` meets its contract. The loop's invariant: the bits that are left, laid on the buffer of now, are all the bits laid on
--- the first buffer. Assumes nothing.
+-- `build::put_bits` meets its contract. Assumes nothing.
 use mathlib.Core.Path.{◌≡◌, ◌∙◌}
 use borrow.Author.Rules.{rules}
 use lib.ListN.{length-set}

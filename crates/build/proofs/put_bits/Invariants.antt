@@ -1,5 +1,4 @@
--- `build::put_bits` meets its contract. The loop's invariant: the bits that are left, laid on the buffer of now, are all the bits laid on
--- the first buffer. Assumes nothing.
+-- The loop's invariant of `build::put_bits`: the bits that are left, laid on the buffer of now, are all the bits laid on the first buffer.
 use mathlib.Core.List.{map}
 use mathlib.Core.Path.{◌≡◌}
 use Prim.Native.Nat.{◌+◌, ◌≤◌}

@@ -1,5 +1,4 @@
--- `build::put_ones` meets its contract. The loop's invariant: the ones that are left, laid on the buffer of now, are all of them laid on
--- the first buffer. Assumes nothing.
+-- `build::put_ones` meets its contract. Assumes nothing.
 use mathlib.Core.Path.{◌≡◌, ◌∙◌}
 use borrow.Author.Rules.{rules}
 use lib.ListN.{length-set}

@@ -1,5 +1,4 @@
--- `build::put_ones` meets its contract. The loop's invariant: the ones that are left, laid on the buffer of now, are all of them laid on
--- the first buffer. Assumes nothing.
+-- The loop's invariant of `build::put_ones`: the ones that are left, laid on the buffer of now, are all of them laid on the first buffer.
 use mathlib.Core.Bool.{true}
 use mathlib.Core.List.{map}
 use mathlib.Core.Path.{◌≡◌}

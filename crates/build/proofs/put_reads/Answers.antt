@@ -1,5 +1,4 @@
--- `build::put_reads` meets its contract. The loop's invariant: the bytes that are left, laid on the buffer of now, are all the bytes
--- laid on the first buffer. Assumes nothing.
+-- `build::put_reads` meets its contract. Assumes nothing.
 use mathlib.Core.Path.{refl}
 use borrow.Author.Rules.{rules}
 use lib.ListN.{length-replicate}

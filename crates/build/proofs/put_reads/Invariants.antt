@@ -1,5 +1,5 @@
--- `build::put_reads` meets its contract. The loop's invariant: the bytes that are left, laid on the buffer of now, are all the bytes
--- laid on the first buffer. Assumes nothing.
+-- The loop's invariant of `build::put_reads`: the bytes that are left, laid on the buffer of now, are all the bytes laid on the first
+-- buffer.
 use mathlib.Core.Bool.{false}
 use Prim.Native.Nat.{◌-◌, ◌≤◌}
 use lib.ListN.{replicate}

@@ -1,5 +1,4 @@
--- `build::put_writes` meets its contract. The loop's invariant: the bytes that are left, laid on the buffer of now, are all the bytes
--- laid on the first buffer, and `delay` is how often the next one waits. Assumes nothing.
+-- `build::put_writes` meets its contract. Assumes nothing.
 use mathlib.Core.Bool.{true}
 use mathlib.Core.List.{map}
 use mathlib.Core.Path.{refl, sym}

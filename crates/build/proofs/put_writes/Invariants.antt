@@ -1,5 +1,5 @@
--- `build::put_writes` meets its contract. The loop's invariant: the bytes that are left, laid on the buffer of now, are all the bytes
--- laid on the first buffer, and `delay` is how often the next one waits. Assumes nothing.
+-- The loop's invariant of `build::put_writes`: the bytes that are left, laid on the buffer of now, are all the bytes laid on the first
+-- buffer, and `delay` is how often the next one waits.
 use mathlib.Core.Bool.{true}
 use mathlib.Core.List.{map}
 use mathlib.Core.Path.{◌≡◌}

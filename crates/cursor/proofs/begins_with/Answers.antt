@@ -1,5 +1,4 @@
--- `cursor::begins_with` meets its contract. The loop's invariant: the bytes that are left of the line decide what all of them decide.
--- Assumes nothing.
+-- `cursor::begins_with` meets its contract. Assumes nothing.
 use mathlib.Core.Path.{sym, ◌∙◌}
 use borrow.Author.Rules.{rules}
 use Rattle.cursor.proofs.Lines.{byte_differs, byte_same, no_byte, too_short}

@@ -1,5 +1,4 @@
--- `cursor::begins_with` meets its contract. The loop's invariant: the bytes that are left of the line decide what all of them decide.
--- Assumes nothing.
+-- The loop's invariant of `cursor::begins_with`: the bytes that are left of the line decide what all of them decide.
 use mathlib.Core.List.{map}
 use mathlib.Core.Path.{◌≡◌}
 use Prim.Native.Nat.{◌-◌, ◌≤◌}

@@ -1,4 +1,4 @@
--- `cursor::past_lines` meets its contract. The loop's invariant: what is left has the stop of all. Assumes nothing.
+-- `cursor::past_lines` meets its contract. Assumes nothing.
 use mathlib.Core.Path.{sym, ◌∙◌}
 use borrow.Author.Rules.{rules}
 use Rattle.cursor.proofs.Lines.{line_formed}

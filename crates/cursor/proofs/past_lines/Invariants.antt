@@ -1,4 +1,4 @@
--- `cursor::past_lines` meets its contract. The loop's invariant: what is left has the stop of all. Assumes nothing.
+-- The loop's invariant of `cursor::past_lines`: what is left has the stop of all.
 use mathlib.Core.Path.{◌≡◌}
 use Prim.Native.Nat.{◌+◌, ◌-◌, ◌%◌, ◌≤◌}
 use lib.ListN.{length, drop}

@@ -1,4 +1,4 @@
--- `cursor::walk` meets its contract. The loop's invariant: what is left has the stop of all. Assumes nothing.
+-- `cursor::walk` meets its contract. Assumes nothing.
 use mathlib.Core.Path.{sym, ◌∙◌}
 use borrow.Author.Rules.{rules}
 use Rattle.cursor.proofs.Lines.{byte_formed, byte_stops, end_stops}

@@ -1,5 +1,4 @@
--- `job::none_above` meets its contract. The loop's invariant: what was found, with what is left of the bytes, decides what all of them
--- decide. Assumes nothing.
+-- `job::none_above` meets its contract. Assumes nothing.
 use mathlib.Core.Path.{sym, ◌∙◌}
 use borrow.Author.Rules.{rules}
 use Rattle.job.proofs.Bits.{one_byte, no_byte}

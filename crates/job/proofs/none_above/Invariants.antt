@@ -1,5 +1,4 @@
--- `job::none_above` meets its contract. The loop's invariant: what was found, with what is left of the bytes, decides what all of them
--- decide. Assumes nothing.
+-- The loop's invariant of `job::none_above`: what was found, with what is left of the bytes, decides what all of them decide.
 use mathlib.Core.Path.{◌≡◌}
 use mathlib.Core.Bool.{◌&&◌}
 use Prim.Native.Nat.{◌≤◌, ◌-◌}

@@ -1,5 +1,4 @@
--- `list_text::put_lines` meets its contract. The loop's invariant: the lines that are left, laid on the buffer of now, are all the lines
--- laid on the first buffer. Assumes nothing.
+-- `list_text::put_lines` meets its contract. Assumes nothing.
 use borrow.Author.Rules.{rules}
 use Rattle.lists.proofs.Walk.{kind_here, list_behind}
 use Rattle.list_text.proofs.Parts.{left_all, left_same, left_none}

@@ -1,5 +1,5 @@
--- `list_text::put_lines` meets its contract. The loop's invariant: the lines that are left, laid on the buffer of now, are all the lines
--- laid on the first buffer. Assumes nothing.
+-- The loop's invariant of `list_text::put_lines`: the lines that are left, laid on the buffer of now, are all the lines laid on the first
+-- buffer.
 use mathlib.Core.Bool.{true}
 use mathlib.Core.Path.{◌≡◌}
 use Prim.Native.Nat.{◌-◌, ◌≤◌}

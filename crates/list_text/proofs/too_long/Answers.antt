@@ -1,5 +1,4 @@
--- `list_text::too_long` meets its contract. The loop's invariant: the lines that are left need more than the room that is left exactly
--- where all of them need more than all of it. Assumes nothing.
+-- `list_text::too_long` meets its contract. Assumes nothing.
 use mathlib.Core.Path.{sym, ap, ◌∙◌}
 use native.Mathlib.Omega.{arith}
 use borrow.Author.Rules.{rules}

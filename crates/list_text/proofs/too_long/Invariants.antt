@@ -1,5 +1,5 @@
--- `list_text::too_long` meets its contract. The loop's invariant: the lines that are left need more than the room that is left exactly
--- where all of them need more than all of it. Assumes nothing.
+-- The loop's invariant of `list_text::too_long`: the lines that are left need more than the room that is left exactly where all of them
+-- need more than all of it.
 use mathlib.Core.Bool.{true}
 use mathlib.Core.Path.{◌≡◌}
 use Prim.Native.Nat.{◌+◌, ◌-◌, ◌≤◌}

@@ -1,4 +1,4 @@
--- `lists::is_list` meets its contract. The loop's invariant: the entries that are left decide what all of them decide. Assumes nothing.
+-- `lists::is_list` meets its contract. Assumes nothing.
 use mathlib.Core.Path.{sym, ◌∙◌}
 use borrow.Author.Rules.{rules}
 use Rattle.protocol.specs.Layout.{current}

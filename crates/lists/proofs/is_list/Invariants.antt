@@ -1,4 +1,4 @@
--- `lists::is_list` meets its contract. The loop's invariant: the entries that are left decide what all of them decide. Assumes nothing.
+-- The loop's invariant of `lists::is_list`: the entries that are left decide what all of them decide.
 use mathlib.Core.Path.{◌≡◌}
 use Prim.Native.Nat.{◌-◌, ◌≤◌}
 use lib.ListN.{length, drop}

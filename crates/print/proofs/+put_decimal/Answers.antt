@@ -1,4 +1,4 @@
--- `print::put_decimal` meets its contract, by the two rules of decimal numbers; the number falls with each call. Assumes nothing.
+-- `print::put_decimal` meets its contract, by the two rules of decimal numbers. Assumes nothing.
 use mathlib.Core.Path.{ap}
 use borrow.Author.Rules.{rules}
 use lib.ListN.{length}

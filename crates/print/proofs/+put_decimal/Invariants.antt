@@ -1,4 +1,4 @@
--- `print::put_decimal` meets its contract, by the two rules of decimal numbers; the number falls with each call. Assumes nothing.
+-- `print::put_decimal` ends: the number falls with each call.
 use Rattle.print.proofs.+put_decimal.Given as goal
 
 abbrev pub decreases-put_decimal : goal.decreases-put_decimal

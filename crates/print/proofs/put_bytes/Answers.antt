@@ -1,5 +1,4 @@
--- `print::put_bytes` meets its contract. The loop's invariant: the bytes that are left, laid on the buffer of now, are all the bytes laid
--- on the first buffer. Assumes nothing.
+-- `print::put_bytes` meets its contract. Assumes nothing.
 use mathlib.Core.Path.{sym, ◌∙◌}
 use borrow.Author.Rules.{rules}
 use lib.ListN.{length-set}

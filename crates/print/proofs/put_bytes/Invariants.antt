@@ -1,5 +1,5 @@
--- `print::put_bytes` meets its contract. The loop's invariant: the bytes that are left, laid on the buffer of now, are all the bytes laid
--- on the first buffer. Assumes nothing.
+-- The loop's invariant of `print::put_bytes`: the bytes that are left, laid on the buffer of now, are all the bytes laid on the first
+-- buffer.
 use mathlib.Core.Path.{◌≡◌}
 use Prim.Native.Nat.{◌+◌, ◌-◌, ◌≤◌}
 use lib.ListN.{length, drop}

@@ -1,5 +1,4 @@
--- `read::scan_on` meets its contract. The loop's invariant: what is reached from here over the columns that are left is what is reached
--- from the start over all. Assumes nothing.
+-- `read::scan_on` meets its contract. Assumes nothing.
 use mathlib.Core.Path.{◌≡◌, refl, sym, ap, ◌∙◌}
 use Prim.Native.Nat.{◌+◌, ◌^◌, ◌≤◌, ◌<◌}
 use native.Mathlib.Omega.{arith}

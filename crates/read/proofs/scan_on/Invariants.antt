@@ -1,5 +1,5 @@
--- `read::scan_on` meets its contract. The loop's invariant: what is reached from here over the columns that are left is what is reached
--- from the start over all. Assumes nothing.
+-- The loop's invariant of `read::scan_on`: what is reached from here over the columns that are left is what is reached from the start over
+-- all.
 use mathlib.Core.Path.{◌≡◌}
 use Prim.Native.Nat.{◌+◌, ◌-◌, ◌≤◌}
 use lib.ListN.{length, drop}

@@ -1,5 +1,4 @@
--- `rows_text::put_columns` meets its contract. The loop's invariant: the lines that are left, laid on the buffer of now, are all the lines
--- laid on the first buffer. Assumes nothing.
+-- `rows_text::put_columns` meets its contract. Assumes nothing.
 use mathlib.Core.Path.{sym, ap, ◌∙◌}
 use Prim.Native.Nat.{◌+◌}
 use borrow.Author.Rules.{rules}

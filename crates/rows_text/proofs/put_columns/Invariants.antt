@@ -1,5 +1,5 @@
--- `rows_text::put_columns` meets its contract. The loop's invariant: the lines that are left, laid on the buffer of now, are all the lines
--- laid on the first buffer. Assumes nothing.
+-- The loop's invariant of `rows_text::put_columns`: the lines that are left, laid on the buffer of now, are all the lines laid on the first
+-- buffer.
 use mathlib.Core.Path.{◌≡◌}
 use Prim.Native.Nat.{◌+◌, ◌-◌, ◌*◌, ◌≤◌}
 use lib.ListN.{length, drop}

@@ -1,5 +1,4 @@
--- `rows_text::put_rows` meets its contract. The loop's invariant: the digits that are left, laid on the rows of now, are all the digits
--- laid on the first rows. Assumes nothing.
+-- `rows_text::put_rows` meets its contract. Assumes nothing.
 use mathlib.Core.Path.{sym, ◌∙◌}
 use borrow.Author.Rules.{rules}
 use lib.ListN.{length-set}

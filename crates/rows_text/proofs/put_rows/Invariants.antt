@@ -1,5 +1,5 @@
--- `rows_text::put_rows` meets its contract. The loop's invariant: the digits that are left, laid on the rows of now, are all the digits
--- laid on the first rows. Assumes nothing.
+-- The loop's invariant of `rows_text::put_rows`: the digits that are left, laid on the rows of now, are all the digits laid on the first
+-- rows.
 use mathlib.Core.Path.{◌≡◌}
 use Prim.Native.Nat.{◌+◌, ◌-◌, ◌*◌, ◌≤◌}
 use lib.ListN.{length, drop}

@@ -1,5 +1,4 @@
--- `run::answer_row` meets its contract. The loop's invariant: the slaves that have yet to go over the row make of the bits of now what
--- the whole chain makes of zeros, and of the registers and the counts; their bytes are those from `at` on. Assumes nothing.
+-- `run::answer_row` meets its contract. Assumes nothing.
 use mathlib.Core.Path.{◌≡◌, refl, sym, ap, ◌∙◌}
 use Prim.Native.Nat.{ℕ, ◌+◌}
 use native.Mathlib.Omega.{arith}

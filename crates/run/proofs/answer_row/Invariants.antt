@@ -1,5 +1,5 @@
--- `run::answer_row` meets its contract. The loop's invariant: the slaves that have yet to go over the row make of the bits of now what
--- the whole chain makes of zeros, and of the registers and the counts; their bytes are those from `at` on. Assumes nothing.
+-- The loop's invariant of `run::answer_row`: the slaves that have yet to go over the row make of the bits of now what the whole chain makes
+-- of zeros, and of the registers and the counts; their bytes are those from `at` on.
 use mathlib.Core.List.{map}
 use mathlib.Core.Path.{◌≡◌}
 use Prim.Native.Nat.{◌+◌, ◌-◌, ◌≤◌}

@@ -1,4 +1,4 @@
--- `run::are_counts` meets its contract. The loop's invariant: what is left of the table decides what all of it decides. Assumes nothing.
+-- `run::are_counts` meets its contract. Assumes nothing.
 use borrow.Author.Rules.{rules}
 use borrow.Author.Tests.{le-leb, lt-leb}
 use lib.ListN.{drop_of_length-le}

@@ -1,4 +1,4 @@
--- `run::are_counts` meets its contract. The loop's invariant: what is left of the table decides what all of it decides. Assumes nothing.
+-- The loop's invariant of `run::are_counts`: what is left of the table decides what all of it decides.
 use mathlib.Core.Path.{◌≡◌}
 use Prim.Native.Nat.{◌-◌, ◌≤◌}
 use lib.ListN.{length, drop}

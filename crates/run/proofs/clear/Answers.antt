@@ -1,4 +1,4 @@
--- `run::clear` meets its contract. The loop's invariant: what was passed is 0. Assumes nothing.
+-- `run::clear` meets its contract. Assumes nothing.
 use mathlib.Core.Path.{refl}
 use native.Mathlib.Omega.{arith}
 use borrow.Author.Rules.{rules}

@@ -1,4 +1,4 @@
--- `run::clear` meets its contract. The loop's invariant: what was passed is 0. Assumes nothing.
+-- The loop's invariant of `run::clear`: what was passed is 0.
 use Prim.Native.Nat.{◌-◌}
 use lib.ListN.{length}
 use Rattle.run.proofs.Slaves.{Cleared}

@@ -1,6 +1,4 @@
--- `run::pass_slave` meets its contract. The loop's invariant: the bits sent so far and those that are left are all that the slave sends,
--- `at` is the place that the address `known` shows in the registers as they now are, and no count is above the columns so far. Assumes
--- nothing.
+-- `run::pass_slave` meets its contract. Assumes nothing.
 use mathlib.Core.Path.{◌≡◌, refl, sym, ap, ◌∙◌}
 use Prim.Native.Nat.{◌<◌}
 use native.Mathlib.Omega.{arith}

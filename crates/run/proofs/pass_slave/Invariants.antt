@@ -1,6 +1,5 @@
--- `run::pass_slave` meets its contract. The loop's invariant: the bits sent so far and those that are left are all that the slave sends,
--- `at` is the place that the address `known` shows in the registers as they now are, and no count is above the columns so far. Assumes
--- nothing.
+-- The loop's invariant of `run::pass_slave`: the bits sent so far and those that are left are all that the slave sends, `at` is the place
+-- that the address `known` shows in the registers as they now are, and no count is above the columns so far.
 use mathlib.Core.List.{map, ◌++◌}
 use mathlib.Core.Path.{◌≡◌}
 use Prim.Native.Nat.{◌-◌, ◌≤◌}

@@ -1,5 +1,4 @@
--- `run::sizes` meets its contract. The loop's invariant: the bytes counted and those of what is left of the table are those of all of it.
--- Assumes nothing.
+-- `run::sizes` meets its contract. Assumes nothing.
 use native.Mathlib.Omega.{arith}
 use borrow.Author.Rules.{rules}
 use Rattle.run.proofs.Tables.{sizes_next, sizes_none}

@@ -1,5 +1,4 @@
--- `run::sizes` meets its contract. The loop's invariant: the bytes counted and those of what is left of the table are those of all of it.
--- Assumes nothing.
+-- The loop's invariant of `run::sizes`: the bytes counted and those of what is left of the table are those of all of it.
 use mathlib.Core.Path.{◌≡◌}
 use Prim.Native.Nat.{◌+◌, ◌-◌, ◌*◌, ◌≤◌}
 use lib.ListN.{length, drop}
