@@ -16,24 +16,22 @@ loop-i-init c = (search rules, refl, none_laid _ _ _ _ _)
 
 pub put_byte-p-requires : goal.put_byte-p-requires
 put_byte-p-requires c =
-    let known = c.shared_slice_known-in-loop-i-1.given in
     let l = c.loop-i in
     let bytes = c.args.bytes.now in
     byte_room _ _ (map write_bits bytes) _ _ l.invariant.2 l.invariant.1
-    (write_next bytes l.i c.loop-i-test.true (omega (arith, known l.i)) c.written.ensures)
+    (write_next bytes l.i c.loop-i-test.true (omega (arith, c.type_inv.bytes l.i)) c.written.ensures)
     c.requires
 
 pub loop-i-preserved : goal.loop-i-preserved
 loop-i-preserved c =
     let put = c.put_byte-p in
     let made = c.written in
-    let known = c.shared_slice_known-in-loop-i-1.given in
     let l = c.loop-i in
     let bytes = c.args.bytes.now in (
       search rules,
       sym (later true _ l.i),
       byte_laid _ _ (map write_bits bytes) _ _ l.invariant.2 l.invariant.1
-          (write_next bytes l.i c.loop-i-test.true (omega (arith, known l.i)) made.ensures) put.ensures,
+          (write_next bytes l.i c.loop-i-test.true (omega (arith, c.type_inv.bytes l.i)) made.ensures) put.ensures,
     )
 
 pub shape_of-out : goal.shape_of-out

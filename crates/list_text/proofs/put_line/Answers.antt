@@ -52,6 +52,20 @@ module _ (e : Fields) {at p q : ℕ} {lent now after : List ℕ} where
     unfolding names
     behind_value named left put = field_behind _ Field.value _ named left put
 
+-- All fields that every kind names ..
+up_to_start : (e : Fields) {at p q r : ℕ} {lent now then after : List ℕ} → at + length (entry_line (entry_of e)) ≤ length lent
+    → Laid (name_of e.kind) at lent p now → Laid (field true e.column) p now q then → Laid (field true e.start) q then r after
+    → LeftOf e at lent Field.start r after
+up_to_start e room name column start = behind_start e (behind_column e (behind_name e room name) column) start
+
+-- .. and the rest.
+up_to_value : (e : Fields) {at p q r s t : ℕ} {lent now a b c after : List ℕ} {i j k l : Bool} → LeftOf e at lent Field.start p now
+    → i ≡ names e.kind 0 → Laid (field i e.id) p now q a → j ≡ names e.kind 1 → Laid (field j e.address) q a r b
+    → k ≡ names_bank_of e.kind e.address → Laid (field k e.bank) r b s c → l ≡ names e.kind 2 → Laid (field l e.value) s c t after
+    → LeftOf e at lent Field.value t after
+up_to_value e left is id ia address ib bank iv value =
+    behind_value e iv (behind_bank e ib (behind_address e ia (behind_id e is left id) address) bank) value
+
 pub put_name-name-requires : goal.put_name-name-requires
 unfolding name_of
 put_name-name-requires c =
@@ -77,26 +91,20 @@ put_field-start-requires c =
 pub put_field-id-requires : goal.put_field-id-requires
 unfolding names
 put_field-id-requires c =
-    let name = behind_name c.args.e c.requires.1 c.put_name-name.ensures in
-    let column = behind_column c.args.e name c.put_field-column.ensures in
-    let start = behind_start c.args.e column c.put_field-start.ensures in
+    let start = up_to_start c.args.e c.requires.1 c.put_name-name.ensures c.put_field-column.ensures c.put_field-start.ensures in
     field_room _ Field.id _ c.has_field.ensures start
 
 pub put_field-address-requires : goal.put_field-address-requires
 unfolding names
 put_field-address-requires c =
-    let name = behind_name c.args.e c.requires.1 c.put_name-name.ensures in
-    let column = behind_column c.args.e name c.put_field-column.ensures in
-    let start = behind_start c.args.e column c.put_field-start.ensures in
+    let start = up_to_start c.args.e c.requires.1 c.put_name-name.ensures c.put_field-column.ensures c.put_field-start.ensures in
     let id = behind_id c.args.e c.has_field.ensures start c.put_field-id.ensures in
     field_room _ Field.address _ c.has_field-2.ensures id
 
 pub put_field-bank-requires : goal.put_field-bank-requires
 unfolding names_bank_of
 put_field-bank-requires c =
-    let name = behind_name c.args.e c.requires.1 c.put_name-name.ensures in
-    let column = behind_column c.args.e name c.put_field-column.ensures in
-    let start = behind_start c.args.e column c.put_field-start.ensures in
+    let start = up_to_start c.args.e c.requires.1 c.put_name-name.ensures c.put_field-column.ensures c.put_field-start.ensures in
     let id = behind_id c.args.e c.has_field.ensures start c.put_field-id.ensures in
     let address = behind_address c.args.e c.has_field-2.ensures id c.put_field-address.ensures in
     field_room _ Field.bank _ c.has_bank.ensures address
@@ -104,9 +112,7 @@ put_field-bank-requires c =
 pub put_field-value-requires : goal.put_field-value-requires
 unfolding names
 put_field-value-requires c =
-    let name = behind_name c.args.e c.requires.1 c.put_name-name.ensures in
-    let column = behind_column c.args.e name c.put_field-column.ensures in
-    let start = behind_start c.args.e column c.put_field-start.ensures in
+    let start = up_to_start c.args.e c.requires.1 c.put_name-name.ensures c.put_field-column.ensures c.put_field-start.ensures in
     let id = behind_id c.args.e c.has_field.ensures start c.put_field-id.ensures in
     let address = behind_address c.args.e c.has_field-2.ensures id c.put_field-address.ensures in
     let bank = behind_bank c.args.e c.has_bank.ensures address c.put_field-bank.ensures in
@@ -115,46 +121,30 @@ put_field-value-requires c =
 pub bounds-out-value : goal.bounds-out-value
 unfolding cells
 bounds-out-value c =
-    let name = behind_name c.args.e c.requires.1 c.put_name-name.ensures in
-    let column = behind_column c.args.e name c.put_field-column.ensures in
-    let start = behind_start c.args.e column c.put_field-start.ensures in
-    let id = behind_id c.args.e c.has_field.ensures start c.put_field-id.ensures in
-    let address = behind_address c.args.e c.has_field-2.ensures id c.put_field-address.ensures in
-    let bank = behind_bank c.args.e c.has_bank.ensures address c.put_field-bank.ensures in
-    let value = behind_value c.args.e c.has_field-3.ensures bank c.put_field-value.ensures in
+    let start = up_to_start c.args.e c.requires.1 c.put_name-name.ensures c.put_field-column.ensures c.put_field-start.ensures in
+    let value = up_to_value c.args.e start c.has_field.ensures c.put_field-id.ensures c.has_field-2.ensures c.put_field-address.ensures
+    c.has_bank.ensures c.put_field-bank.ensures c.has_field-3.ensures c.put_field-value.ensures in
     search rules
 
 pub overflow_add-result : goal.overflow_add-result
 unfolding cells
 overflow_add-result c =
-    let name = behind_name c.args.e c.requires.1 c.put_name-name.ensures in
-    let column = behind_column c.args.e name c.put_field-column.ensures in
-    let start = behind_start c.args.e column c.put_field-start.ensures in
-    let id = behind_id c.args.e c.has_field.ensures start c.put_field-id.ensures in
-    let address = behind_address c.args.e c.has_field-2.ensures id c.put_field-address.ensures in
-    let bank = behind_bank c.args.e c.has_bank.ensures address c.put_field-bank.ensures in
-    let value = behind_value c.args.e c.has_field-3.ensures bank c.put_field-value.ensures in
+    let start = up_to_start c.args.e c.requires.1 c.put_name-name.ensures c.put_field-column.ensures c.put_field-start.ensures in
+    let value = up_to_value c.args.e start c.has_field.ensures c.put_field-id.ensures c.has_field-2.ensures c.put_field-address.ensures
+    c.has_bank.ensures c.put_field-bank.ensures c.has_field-3.ensures c.put_field-value.ensures in
     let same = left_same value in
     search rules
 
 pub shape_of-out : goal.shape_of-out
 shape_of-out c =
-    let name = behind_name c.args.e c.requires.1 c.put_name-name.ensures in
-    let column = behind_column c.args.e name c.put_field-column.ensures in
-    let start = behind_start c.args.e column c.put_field-start.ensures in
-    let id = behind_id c.args.e c.has_field.ensures start c.put_field-id.ensures in
-    let address = behind_address c.args.e c.has_field-2.ensures id c.put_field-address.ensures in
-    let bank = behind_bank c.args.e c.has_bank.ensures address c.put_field-bank.ensures in
-    let value = behind_value c.args.e c.has_field-3.ensures bank c.put_field-value.ensures in
+    let start = up_to_start c.args.e c.requires.1 c.put_name-name.ensures c.put_field-column.ensures c.put_field-start.ensures in
+    let value = up_to_value c.args.e start c.has_field.ensures c.put_field-id.ensures c.has_field-2.ensures c.put_field-address.ensures
+    c.has_bank.ensures c.put_field-bank.ensures c.has_field-3.ensures c.put_field-value.ensures in
     laid_length (line_end (entry_of c.args.e) value)
 
 pub returns : goal.returns
 returns c =
-    let name = behind_name c.args.e c.requires.1 c.put_name-name.ensures in
-    let column = behind_column c.args.e name c.put_field-column.ensures in
-    let start = behind_start c.args.e column c.put_field-start.ensures in
-    let id = behind_id c.args.e c.has_field.ensures start c.put_field-id.ensures in
-    let address = behind_address c.args.e c.has_field-2.ensures id c.put_field-address.ensures in
-    let bank = behind_bank c.args.e c.has_bank.ensures address c.put_field-bank.ensures in
-    let value = behind_value c.args.e c.has_field-3.ensures bank c.put_field-value.ensures in
+    let start = up_to_start c.args.e c.requires.1 c.put_name-name.ensures c.put_field-column.ensures c.put_field-start.ensures in
+    let value = up_to_value c.args.e start c.has_field.ensures c.put_field-id.ensures c.has_field-2.ensures c.put_field-address.ensures
+    c.has_bank.ensures c.put_field-bank.ensures c.has_field-3.ensures c.put_field-value.ensures in
     line_end (entry_of c.args.e) value
