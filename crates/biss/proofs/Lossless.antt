@@ -5,14 +5,16 @@ use Prim.Native.Nat.{ℕ, zero, suc, ◌+◌, ◌-◌, ◌*◌, ◌/◌, ◌%◌
 use native.Mathlib.Omega.{arith}
 use borrow.Author.Tests.{lt-ltb, le-ltb, ltb-true, ltb-false}
 use lib.Dec.{ltb}
+use Rattle.std.specs.Prelude.{Option, Some, None, Result, Ok, Err}
 use Rattle.protocol.specs.Limits.{slave_limit, id_count}
 use Rattle.laws.proofs.Every.{tested}
-use Rattle.job.specs.Refusals.{alone, on_line, of_job, refusal, Ending, made, refused, told}
-use Rattle.job.specs.declared.Outcome.{Outcome}
+use Rattle.job.specs.Refusals.{alone, on_line, of_job, refusal, number, Ending, made, refused, told}
+use Rattle.job.specs.declared.Reason.{Reason}
+use Rattle.job.specs.declared.Refusal as Returned
+use Rattle.job.proofs.Refusals.{one_reason}
 use Rattle.channels.specs.Channel.{channel_of}
 use Rattle.channels.specs.declared.SlaveId.{SlaveId}
-use Rattle.channels.specs.declared.Channel.{Channel}
-use Rattle.channels.specs.declared.Channel.TheVariants as Channels
+use Rattle.channels.specs.declared.ChannelPlace.{ChannelPlace}
 use Rattle.biss.specs.Coded.{code, decode_line, decode_detail, decode, Fits, channel_code, Coded}
 
 -- A line that is told counts from 1, so that it is read as one.
@@ -46,27 +48,27 @@ decode_code (refused (refusal k (of_job i))) h =
 code_lossless : (a b : Ending) → Fits a → Fits b → code a ≡ code b → a ≡ b
 code_lossless a b h k e = sym (decode_code a h) ∙ ap decode e ∙ decode_code b k
 
-pub decode_call : {returned : ℕ} {Promised : Outcome → Type 0} (call : Coded returned Promised) → Fits (told call.end)
+pub decode_call : {returned : ℕ} {Promised : Result ℕ Returned.Refusal → Type 0} (call : Coded returned Promised) → Fits (told call.end)
     → decode returned ≡ told call.end
 decode_call call h = ap decode call.coded ∙ decode_code (told call.end) h
 
 -- A channel has its room where its place is not 0, which stands for none, and its refusal as above ..
-abbrev Held : Channel → Type 0
-Held (Channels.Place place) = (0 < place.0) × (place.0 < 2 ^ 63)
-Held Channels.Absent = Unit {0}
-Held (Channels.Refused k) = k < 2 ^ 6
+abbrev Held : Result (Option ChannelPlace) Reason → Type 0
+Held (Ok (Some place)) = (0 < place.0) × (place.0 < 2 ^ 63)
+Held (Ok None) = Unit {0}
+Held (Err reason) = number reason < 2 ^ 6
 
-channel_lossless : (a b : Channel) → Held a → Held b → channel_code a ≡ channel_code b → a ≡ b
+channel_lossless : (a b : Result (Option ChannelPlace) Reason) → Held a → Held b → channel_code a ≡ channel_code b → a ≡ b
 unfolding channel_code code
-channel_lossless (Channels.Place p) (Channels.Place q) h k e = ap (λ (n : ℕ). Channels.Place (record { 0 = n })) e
-channel_lossless (Channels.Place p) Channels.Absent h k e = absurd (omega arith)
-channel_lossless (Channels.Place p) (Channels.Refused n) h k e = absurd (omega arith)
-channel_lossless Channels.Absent (Channels.Place q) h k e = absurd (omega arith)
-channel_lossless Channels.Absent Channels.Absent h k e = refl
-channel_lossless Channels.Absent (Channels.Refused n) h k e = absurd (omega arith)
-channel_lossless (Channels.Refused n) (Channels.Place q) h k e = absurd (omega arith)
-channel_lossless (Channels.Refused n) Channels.Absent h k e = absurd (omega arith)
-channel_lossless (Channels.Refused n) (Channels.Refused m) h k e = let same : n ≡ m = omega arith in ap Channels.Refused same
+channel_lossless (Ok (Some p)) (Ok (Some q)) h k e = ap (λ (n : ℕ). Ok (Some (record { 0 = n }))) e
+channel_lossless (Ok (Some p)) (Ok None) h k e = absurd (omega arith)
+channel_lossless (Ok (Some p)) (Err r) h k e = absurd (omega arith)
+channel_lossless (Ok None) (Ok (Some q)) h k e = absurd (omega arith)
+channel_lossless (Ok None) (Ok None) h k e = refl
+channel_lossless (Ok None) (Err r) h k e = absurd (omega arith)
+channel_lossless (Err r) (Ok (Some q)) h k e = absurd (omega arith)
+channel_lossless (Err r) (Ok None) h k e = absurd (omega arith)
+channel_lossless (Err r) (Err s) h k e = let same : number r ≡ number s = omega arith in ap (λ (x : Reason). Err x) (one_reason r s same)
 
 -- .. as every channel that is returned has.
 channel_held : (id : SlaveId) (slaves : ℕ) → Held (channel_of id slaves)

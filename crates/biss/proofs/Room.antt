@@ -9,6 +9,8 @@ use Prim.Native.Nat.{ℕ, ◌+◌, ◌^◌, ◌≤◌, ◌<◌}
 use native.Mathlib.Omega.{arith}
 use borrow.Author.Tests.{ltb-false}
 use lib.ListN.{length}
+use Rattle.std.proofs.lemmas.Bool.{or_parts}
+use Rattle.std.specs.Prelude.{Result}
 use Rattle.protocol.specs.Limits.{column_limit}
 use Rattle.protocol.specs.Building.{Request}
 use Rattle.protocol.specs.Layout.{current, list_bytes, entries_in}
@@ -19,8 +21,8 @@ use Rattle.protocol.proofs.Codec.{length_list}
 use Rattle.protocol.proofs.Fault.{Low, text_low}
 use Rattle.job.specs.Refusals.{Detail, alone, on_line, of_job, Refusal, refusal, Rule, when, found, first, refused, ending, told, Lent, Ended}
 use Rattle.job.specs.Rows.{row_rules, wrong_row, wrong_rows}
-use Rattle.job.specs.declared.Outcome.{Outcome}
-use Rattle.job.proofs.Refusals.{no, no_either}
+use Rattle.job.specs.declared.Refusal as Returned
+use Rattle.job.proofs.Refusals.{no}
 use Rattle.build.specs.Build as Build
 use Rattle.build.specs.Build.{Built}
 use Rattle.run.specs.Run as Run
@@ -53,26 +55,26 @@ ending_fits (when false n ∷ rules) count r h = ending_fits rules count r.1 h
 ending_fits (found label none ∷ rules) count r h = ending_fits rules count r.1 h
 ending_fits (found label (some q) ∷ rules) count r h = r.0
 
-end_fits : {rules : List Rule} {count : ℕ} {buffers : List Lent} {outcome : Outcome} {after : List (List ℕ)}
+end_fits : {rules : List Rule} {count : ℕ} {buffers : List Lent} {outcome : Result ℕ Returned.Refusal} {after : List (List ℕ)}
     → Ended rules count buffers outcome after → Roomy rules → (first rules ≡ none → count < 2 ^ 63) → Fits (told outcome)
 end_fits {rules} {count} ended r h = rw ended.tells (ending_fits rules count r h)
 
 -- So the end of build, run and read, ..
-pub built_fits : {r : Request} {out : List ℕ} {outcome : Outcome} {after : List ℕ} → Built r out outcome after → length out < 2 ^ 63
+pub built_fits : {r : Request} {out : List ℕ} {outcome : Result ℕ Returned.Refusal} {after : List ℕ} → Built r out outcome after → length out < 2 ^ 63
     → Fits (told outcome)
 unfolding Build.refusals
 built_fits {r} {out} built h =
     end_fits built.ends (omega arith)
     (λ e. let fits : length (Build.made r) ≤ length out = ltb-false _ _ (no 9 _ e) in omega arith)
 
-pub ran_fits : {slaves : ℕ} {table rights waits registers counts cdm cds : List ℕ} {outcome : Outcome} {registers' counts' cds' : List ℕ}
+pub ran_fits : {slaves : ℕ} {table rights waits registers counts cdm cds : List ℕ} {outcome : Result ℕ Returned.Refusal} {registers' counts' cds' : List ℕ}
     → Ran slaves table rights waits registers counts cdm cds outcome registers' counts' cds' → Fits (told outcome)
 unfolding Run.refusals Run.size_refusals wrong_row row_rules
 ran_fits {cdm} ran =
     end_fits ran.ends (omega arith)
-    (λ e. let short : length cdm ≤ column_limit = ltb-false _ _ (no_either _ _ (no 5 _ e)).0 in omega arith)
+    (λ e. let short : length cdm ≤ column_limit = ltb-false _ _ (or_parts _ _ (no 5 _ e)).0 in omega arith)
 
-pub listed_fits : {cdm cds : List ℕ} {k : ℕ} {out : List ℕ} {outcome : Outcome} {after : List ℕ} → Listed cdm cds k out outcome after
+pub listed_fits : {cdm cds : List ℕ} {k : ℕ} {out : List ℕ} {outcome : Result ℕ Returned.Refusal} {after : List ℕ} → Listed cdm cds k out outcome after
     → length out < 2 ^ 63 → Fits (told outcome)
 unfolding Read.refusals Read.rows_refusals wrong_rows row_rules
 listed_fits {cdm} {cds} {k} {out} listed h =
@@ -99,7 +101,7 @@ job_fits rules r i (j ∷ jobs) h =
     one_fits i (first (rules j)) _ (omega arith) (ending_fits (rules j) 0 (r j) (λ e. omega arith))
     (job_fits rules r (i + 1) jobs (omega arith))
 
-pub listed_all_fits : {cdm cds : List ℕ} {jobs : List Job} {out counts : List ℕ} {outcome : Outcome} {after tally : List ℕ}
+pub listed_all_fits : {cdm cds : List ℕ} {jobs : List Job} {out counts : List ℕ} {outcome : Result ℕ Returned.Refusal} {after tally : List ℕ}
     → ListedAll cdm cds jobs out counts outcome after tally → length jobs ≤ 2 ^ 55 → length out < 2 ^ 63 → Fits (told outcome)
 unfolding ReadAll.refusals place_refusals own_refusals Read.rows_refusals wrong_rows row_rules
 listed_all_fits {cdm} {cds} {jobs} {out} listed h k =
@@ -110,14 +112,14 @@ listed_all_fits {cdm} {cds} {jobs} {out} listed h k =
     (λ e. let fits : length (list_bytes current lists) ≤ length out = ltb-false _ _ (no 9 _ e) in omega (arith, length_list current lists))
 
 -- .. and of carry.
-pub rows_printed_fits : (cdm cds : List ℕ) {out : List ℕ} {outcome : Outcome} {after : List ℕ} → RowsPrinted cdm cds out outcome after
+pub rows_printed_fits : (cdm cds : List ℕ) {out : List ℕ} {outcome : Result ℕ Returned.Refusal} {after : List ℕ} → RowsPrinted cdm cds out outcome after
     → length out < 2 ^ 63 → Fits (told outcome)
 unfolding rows_refusals wrong_rows row_rules
 rows_printed_fits cdm cds {out} printed h =
     end_fits printed (omega arith)
     (λ e. let fits : length (rows_text cdm cds) ≤ length out = ltb-false _ _ (no 9 _ e) in omega arith)
 
-pub list_printed_fits : (list : List ℕ) {out : List ℕ} {outcome : Outcome} {after : List ℕ} → ListPrinted list out outcome after
+pub list_printed_fits : (list : List ℕ) {out : List ℕ} {outcome : Result ℕ Returned.Refusal} {after : List ℕ} → ListPrinted list out outcome after
     → length out < 2 ^ 63 → Fits (told outcome)
 unfolding list_refusals
 list_printed_fits list {out} printed h =
@@ -127,7 +129,7 @@ form_fits : (fault : Option Fault) {bytes : ℕ} → bytes < 2 ^ 55 → IfAny (L
 form_fits none h low = tt
 form_fits (some f) h low = omega arith
 
-pub taken_fits : {text cdm cds : List ℕ} {outcome : Outcome} {cdm' cds' : List ℕ} → RowsTaken text cdm cds outcome cdm' cds'
+pub taken_fits : {text cdm cds : List ℕ} {outcome : Result ℕ Returned.Refusal} {cdm' cds' : List ℕ} → RowsTaken text cdm cds outcome cdm' cds'
     → length text < 2 ^ 55 → Fits (told outcome)
 unfolding text_refusals text_room
 taken_fits {text} taken h =

@@ -6,11 +6,11 @@
 --         0    how many were made
 --         1    0    line, from 1; 0 for none        byte        number
 --         1    1    job, from 0                                 number
-use Rattle.std.specs.Prelude.{◌≡◌, cond, ℕ, zero, suc, ◌+◌, ◌-◌, ◌*◌, ◌/◌, ◌%◌, ◌^◌, ◌≤◌, ◌<◌, min, ltb}
-use Rattle.job.specs.Refusals.{Detail, alone, on_line, of_job, refusal, Ending, made, refused, told}
-use Rattle.job.specs.declared.Outcome.{Outcome}
-use Rattle.channels.specs.declared.Channel.{Channel}
-use Rattle.channels.specs.declared.Channel.TheVariants as Channels
+use Rattle.std.specs.Prelude.{◌≡◌, cond, ℕ, zero, suc, ◌+◌, ◌-◌, ◌*◌, ◌/◌, ◌%◌, ◌^◌, ◌≤◌, ◌<◌, min, ltb, Option, Some, None, Result, Ok, Err}
+use Rattle.job.specs.Refusals.{Detail, alone, on_line, of_job, refusal, number, Ending, made, refused, told}
+use Rattle.job.specs.declared.Reason.{Reason}
+use Rattle.job.specs.declared.Refusal as Returned
+use Rattle.channels.specs.declared.ChannelPlace.{ChannelPlace}
 
 -- Each part on its bits; of a line or a job past the last that is told, that one: with any number of a byte it has room in 64 bits.
 unfoldable pub code : Ending → ℕ
@@ -43,13 +43,13 @@ Fits (refused (refusal number (on_line line byte))) = (number < 2 ^ 6) × (1 ≤
 Fits (refused (refusal number (of_job job))) = (number < 2 ^ 6) × (job < 2 ^ 55)
 
 -- A channel place counts from 1, so that 0 says that the chain has no slave of that ID; a refusal as of a job.
-unfoldable pub channel_code : Channel → ℕ
-channel_code (Channels.Place place) = place.0
-channel_code Channels.Absent = 0
-channel_code (Channels.Refused number) = code (refused (refusal number alone))
+unfoldable pub channel_code : Result (Option ChannelPlace) Reason → ℕ
+channel_code (Ok (Some place)) = place.0
+channel_code (Ok None) = 0
+channel_code (Err reason) = code (refused (refusal (number reason) alone))
 
 -- The number returned is that of an end that the job promises.
-pub record Coded (returned : ℕ) (Promised : Outcome → Type 0) : Type 0 where
-  pub end : Outcome
+pub record Coded (returned : ℕ) (Promised : Result ℕ Returned.Refusal → Type 0) : Type 0 where
+  pub end : Result ℕ Returned.Refusal
   pub coded : returned ≡ code (told end)
   pub promised : Promised end

@@ -3,10 +3,10 @@
 // the job, times 64. Beside them the channel place of a slave. biss_c exports them to C and Rust.
 #![tactic(auto)]
 
-ghost use Rattle.std.specs.Prelude.{◌≡◌, ◌≤◌, min};
+ghost use Rattle.std.specs.Prelude.{◌≡◌};
 ghost use Rattle.protocol.specs.Building.{Request};
 ghost use Rattle.channels.specs.Channel.{channel_of};
-ghost use Rattle.job.specs.Refusals.{refusal, refused, detail, told};
+ghost use Rattle.job.specs.Refusals.{refused, refusal_of, told};
 ghost use Rattle.build.specs.Build.{Built};
 ghost use Rattle.run.specs.Run.{Ran};
 ghost use Rattle.read.specs.Read.{Listed};
@@ -15,29 +15,29 @@ ghost use Rattle.rows_text.specs.RowsText.{RowsPrinted, RowsTaken};
 ghost use Rattle.list_text.specs.Lists.{ListPrinted};
 ghost use Rattle.biss.specs.Coded.{code, channel_code, Coded};
 
-use channels::{Channel, SlaveId};
-use job::{Detail, Outcome};
+use channels::SlaveId;
+use job::{Detail, Refusal};
 use read_all::Job;
 
 // What a refusal's number stands on, 2 ^ 63: no count is as high.
-const REFUSED: u64 = 9223372036854775808;
+const REFUSED: u64 = 1 << 63;
 
 // What a refusal's line and byte are counted in: below them its number has room, and below a line its byte.
-const ONE_LINE: u64 = 512;
+const ONE_LINE: u64 = 1 << 9;
 
-const ONE_BYTE: u64 = 64;
+const ONE_BYTE: u64 = 1 << 6;
 
 // What a refusal of a job stands on, 2 ^ 63 + 2 ^ 62: no line is as high.
-const JOB_REFUSED: u64 = 13835058055282163712;
+const JOB_REFUSED: u64 = REFUSED + (1 << 62);
 
 // What its job is counted in: below it the number has room.
-const ONE_JOB: u64 = 64;
+const ONE_JOB: u64 = 1 << 6;
 
 // The highest line that has room, 2 ^ 53 - 1: a text of so many lines has 2 ^ 55 bytes.
-const LAST_LINE: u64 = 9007199254740991;
+const LAST_LINE: u64 = (1 << 53) - 1;
 
 // The highest job that has room beside any number of a byte, 2 ^ 55 - 1: a table of so many jobs has 2 ^ 59 bytes.
-const LAST_JOB: u64 = 36028797018963967;
+const LAST_JOB: u64 = (1 << 55) - 1;
 
 // The master row of a read of `count` registers of the slave `id`, whose waiting number is `wait`, from `address` on.
 pub fn biss_build_read(id: u8, address: u8, count: usize, wait: u8, out: &mut [u8]) -> u64
@@ -93,11 +93,7 @@ pub fn biss_read_all(
 ) -> u64
     ensures { Coded result (λ o. ListedAll cdm.now cds.now jobs.now out.old counts.old o out.new counts.new) }
 {
-    let mut state = read_all::begin(cdm.len(), cds.len(), jobs.len(), counts.len());
-    while state.pass != 0 {
-        state = read_all::turn(cdm, cds, out, counts, state, jobs[state.at]);
-    }
-    coded(state.outcome)
+    coded(read_all::read_all(cdm, cds, jobs, out, counts))
 }
 
 // Two rows as text.
@@ -125,47 +121,31 @@ pub fn biss_list_to_text(list: &[u8], out: &mut [u8]) -> u64
 pub fn biss_channel_of(id: u8, slaves: usize) -> u64
     ensures { result ≡ channel_code (channel_of (record { 0 = id }) slaves) }
 {
-    coded_channel(channels::channel_of(SlaveId(id), slaves))
+    match channels::channel_of(SlaveId(id), slaves) {
+        Ok(Some(place)) => place.0 as u64,
+        Ok(None) => 0,
+        Err(reason) => REFUSED + reason.number() as u64,
+    }
 }
 
-fn coded(outcome: Outcome) -> u64
+fn coded(outcome: Result<usize, Refusal>) -> u64
     ensures { result ≡ code (told outcome) }
 {
     match outcome {
-        Outcome::Made(n) => n as u64,
-        Outcome::Refused(number, beside) => coded_refusal(number, beside),
+        Ok(n) => n as u64,
+        Err(refusal) => coded_refusal(refusal),
     }
 }
 
-fn coded_refusal(number: u8, beside: Detail) -> u64
-    ensures { result ≡ code (refused (refusal number (detail beside))) }
+fn coded_refusal(refusal: Refusal) -> u64
+    ensures { result ≡ code (refused (refusal_of refusal)) }
 {
-    match beside {
-        Detail::Alone => REFUSED + number as u64,
+    let number = refusal.reason.number() as u64;
+    match refusal.beside {
+        Detail::Alone => REFUSED + number,
         Detail::OnLine(line, byte) => {
-            REFUSED
-                + ONE_LINE * least(line as u64, LAST_LINE)
-                + ONE_BYTE * byte as u64
-                + number as u64
+            REFUSED + ONE_LINE * (line as u64).min(LAST_LINE) + ONE_BYTE * byte as u64 + number
         }
-        Detail::OfJob(job) => {
-            JOB_REFUSED + ONE_JOB * least(job as u64, LAST_JOB) + number as u64
-        }
-    }
-}
-
-fn least(n: u64, limit: u64) -> u64
-    ensures { (result ≡ min n limit) × (result ≤ limit) }
-{
-    if n < limit { n } else { limit }
-}
-
-fn coded_channel(channel: Channel) -> u64
-    ensures { result ≡ channel_code channel }
-{
-    match channel {
-        Channel::Place(place) => place.0 as u64,
-        Channel::Absent => 0,
-        Channel::Refused(k) => REFUSED + k as u64,
+        Detail::OfJob(job) => JOB_REFUSED + ONE_JOB * (job as u64).min(LAST_JOB) + number,
     }
 }

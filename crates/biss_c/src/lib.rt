@@ -1,5 +1,5 @@
-// The jobs as C calls them: each function of biss exported under its own name, with the same promise. A slice crosses as a pointer and a
-// length.
+// The jobs as C calls them: each function of biss once more, exported under its own name with the same promise, since C links these names
+// and Rust crates call those of biss. A slice crosses as a pointer and a length.
 #![tactic(auto)]
 
 ghost use Rattle.std.specs.Prelude.{◌≡◌};

@@ -8,21 +8,22 @@ use native.Mathlib.Nat.{mul_comm, mul-suc, add-mul}
 use native.Mathlib.Numerals.{add-one}
 use native.Mathlib.Omega.{arith}
 use borrow.Author.Tests.{eq-eqb, ne_eqb}
-use lib.ListN.{length, length-append, length-map, length-replicate, get_or, get_or-replicate, get_or-map}
+use lib.ListN.{length, length-append, length-map, length-replicate, get_or, get_or-replicate}
 use lib.ListN.{drop, drop_of_length-le, replicate}
 use lib.Seq.{append_snoc, drop-cons, sets, length-sets}
-use Rattle.laws.proofs.Every.{Every}
+use Rattle.std.specs.Prelude.{All}
+use Rattle.std.proofs.lemmas.List.{get_or-map}
 use Rattle.protocol.specs.Bits.{num, bit, bits}
-use Rattle.protocol.specs.Division.{header_bits, data_bits, top_bit, check, word}
+use Rattle.protocol.specs.Division.{header_bits, data_bits, check, word}
 use Rattle.protocol.specs.Header.{access_word, command_word}
 use Rattle.protocol.specs.Commands.{execute_column}
 use Rattle.protocol.specs.Memory.{delay_by}
-use Rattle.protocol.specs.Building.{Request, read, write, command, byte_columns, read_bits, write_bits, command_columns, frame_of, row_for}
+use Rattle.protocol.specs.Building.{read, write, command, byte_columns, read_bits, write_bits, command_columns, frame_of, row_for}
 use Rattle.protocol.specs.Understood.{delayed}
 use Rattle.protocol.proofs.Words.{num_lt, bits_append, length_bits, word_lt}
 use Rattle.protocol.proofs.Commands.{execute_late}
 use Rattle.build.specs.Build.{made}
-use Rattle.build.specs.Parts.{lead, way, access_lead, read_columns, write_columns, Laid}
+use Rattle.build.specs.Parts.{lead, way, access_lead, access_row, Laid}
 use Rattle.build.proofs.Columns.{part_laid}
 
 -- Fourteen zeros, S and the header are the thirty bits of one number ..
@@ -45,41 +46,19 @@ access_bits writing id address h =
     ∙ bits_append 30 2 (2 ^ 15 + word header_bits v) (ways writing).0
     ∙ rw (lead_bits v h, (ways writing).1)
 
--- .. and a byte's S, twelve bits and P of fourteen: those of w are byte i of an access, counted from 0.
-pub record Next (bytes : List (List Bool)) (i w : ℕ) : Type 0 where
-  pub twelve : List Bool
-  pub here : drop i bytes ≡ twelve ∷ drop (i + 1) bytes
-  pub fourteen : bits 14 w ≡ true ∷ (twelve ++ false ∷ [])
-
-here_at : (bytes : List (List Bool)) (i : ℕ) (otherwise : List Bool) → i < length bytes
-    → drop i bytes ≡ get_or bytes i otherwise ∷ drop (i + 1) bytes
-here_at bytes i otherwise h = rw add-one (drop-cons bytes i otherwise h)
-
-pub read_next : (count i : ℕ) → i < count → Next (replicate count read_bits) i 8192
+-- .. and a byte's S, twelve bits and P of fourteen: of a read ..
+pub read_word : (count nth : ℕ) → nth < count → bits 14 8192 ≡ true ∷ (get_or (replicate count read_bits) nth [] ++ false ∷ [])
 unfolding bits bit
-read_next count i h =
-    record {
-      twelve = read_bits;
-      here = rw (get_or-replicate count i read_bits read_bits h) at (here_at (replicate count read_bits) i read_bits (rw length-replicate h));
-      fourteen = refl;
-    }
+read_word count nth h = rw (get_or-replicate count nth read_bits [] h)
 
-write_bits_lem : (v : ℕ) → v < 2 ^ data_bits → bits 14 (8192 + 32 * v + 2 * check data_bits v) ≡ true ∷ (write_bits v ++ false ∷ [])
+-- .. and of a write.
+pub write_word : (v : ℕ) → v < 2 ^ data_bits → bits 14 (8192 + 32 * v + 2 * check data_bits v) ≡ true ∷ (write_bits v ++ false ∷ [])
 unfolding bits bit word
-write_bits_lem v h =
+write_word v h =
     let w : ℕ = word data_bits v in
     let e : 8192 + 32 * v + 2 * check data_bits v ≡ 1 * 2 ^ 13 + (w * 2 ^ 1 + 0) = omega arith in
     ap (bits 14) e ∙ bits_append 1 13 1 {c = w * 2 ^ 1 + 0} (omega (arith, word_lt data_bits v h))
     ∙ ap (λ (l : List Bool). true ∷ l) (bits_append 12 1 w {c = 0} (omega arith))
-
-pub write_next : (vs : List ℕ) (i : ℕ) → i < length vs → get_or vs i 0 < 2 ^ data_bits → {w : ℕ}
-    → w ≡ 8192 + 32 * get_or vs i 0 + 2 * check data_bits (get_or vs i 0) → Next (map write_bits vs) i w
-write_next vs i h k e =
-    record {
-      twelve = write_bits (get_or vs i 0);
-      here = rw (get_or-map write_bits vs i 0) at (here_at (map write_bits vs) i (write_bits 0) (rw length-map h));
-      fourteen = rw e (write_bits_lem (get_or vs i 0) k);
-    }
 
 -- The bytes of an access laid one after the other, of a read or a write: before byte i the columns that are left, laid on the row of now,
 -- are all of them laid on the first row.
@@ -92,11 +71,9 @@ module _ (writing : Bool) (wait : ℕ) (bytes : List (List Bool)) (at : ℕ) (fi
     pub long : length out ≡ length first
     pub lays : sets out p (map num (left i)) ≡ sets first at (map num (left 0))
 
-  pub none_laid : Laying 0 at first
-  none_laid = record { place = refl; long = refl; lays = refl }
-
   module _ {i p : ℕ} {out : List ℕ} (so_far : Laying i p out) where
-    module _ {delay w : ℕ} (waits : delay ≡ delay_by wait writing (i + 1)) (byte : Next bytes i w) where
+    module _ (delay w : ℕ) (some : i < length bytes) (waits : delay ≡ delay_by wait writing (i + 1))
+        (byte : bits 14 w ≡ true ∷ (get_or bytes i [] ++ false ∷ [])) where
       abbrev part : List Bool
       part = replicate delay true ++ bits 14 w
 
@@ -105,7 +82,7 @@ module _ (writing : Bool) (wait : ℕ) (bytes : List (List Bool)) (at : ℕ) (fi
 
       parted : part ++ left (i + 1) ≡ left i
       unfolding byte_columns
-      parted = rw (waits, byte.here, byte.fourteen, append_assoc, append_snoc)
+      parted = rw (waits, drop-cons bytes i [] some, byte, append_assoc, append_snoc, add-one)
 
       pub byte_room : at + length (left 0) ≤ length first → p + (delay + 14) ≤ length out
       byte_room room = omega (arith, part_long, rw length-append at (ap length parted), so_far.place, so_far.long)
@@ -134,15 +111,21 @@ later true wait i = rw (ne_eqb (i + 1 + 1) 1 (λ e. omega arith))
 
 -- The columns of any bytes of twelve bits: fourteen each, and S again where one waits.
 abbrev Twelves : List (List Bool) → Type 0
-Twelves bytes = Every (λ (twelve : List Bool). length twelve ≡ top_bit + 1) bytes
+Twelves bytes = All (λ (twelve : List Bool). length twelve ≡ 12) bytes
+
+later_twelves : (twelve : List Bool) (bytes : List (List Bool)) → Twelves (twelve ∷ bytes) → Twelves bytes
+later_twelves twelve bytes h k d some = h (suc k) d (omega arith)
 
 length_from : (writing : Bool) (wait i : ℕ) (twelve : List Bool) (bytes : List (List Bool)) → Twelves (twelve ∷ bytes)
     → length (byte_columns writing wait (i + 1) (twelve ∷ bytes)) ≡ delay_by wait writing (i + 1) + 14 + (14 + wait) * length bytes
 unfolding byte_columns
-length_from writing wait i twelve [] h = rw (length-append, length-replicate, length-append) (omega (arith, h.0))
+length_from writing wait i twelve [] h =
+    let here : length twelve ≡ 12 = h 0 [] (omega arith) in
+    rw (length-append, length-replicate, length-append) (omega arith)
 length_from writing wait i twelve (next ∷ bytes) h =
-    rw (length-append, length-replicate, length-append, length_from writing wait (i + 1) next bytes h.1, later)
-    (omega (arith, h.0))
+    let here : length twelve ≡ 12 = h 0 [] (omega arith) in
+    rw (length-append, length-replicate, length-append, length_from writing wait (i + 1) next bytes (later_twelves twelve (next ∷ bytes) h), later)
+    (omega arith)
 
 length_bytes : (writing : Bool) (wait : ℕ) (bytes : List (List Bool)) → Twelves bytes
     → length (byte_columns writing wait 1 bytes) ≡ 14 * length bytes + wait * delayed writing (length bytes)
@@ -154,21 +137,17 @@ length_bytes false wait (twelve ∷ bytes) h =
 length_bytes true wait (twelve ∷ bytes) h = rw (length_from true wait 0 twelve bytes h, add-mul) (omega arith)
 
 reads_twelve : (count : ℕ) → Twelves (replicate count read_bits)
-reads_twelve zero = tt
-reads_twelve (suc n) = (refl, reads_twelve n)
+reads_twelve count k d some = rw (get_or-replicate count k read_bits d (rw length-replicate at some))
 
-writes_twelve : (vs : List ℕ) → Twelves (map write_bits vs)
-writes_twelve [] = tt
-writes_twelve (v ∷ vs) = (length_bits (top_bit + 1) (word data_bits v), writes_twelve vs)
+pub writes_twelve : (vs : List ℕ) → Twelves (map write_bits vs)
+writes_twelve vs k d some = rw (get_or-map write_bits vs k 0 d (rw length-map at some)) (length_bits 12 (word data_bits (get_or vs k 0)))
 
 -- A row of an access is its first 32 columns and the bytes, that of a command its lead and the columns from its S to EX.
-pub made_read : (id address count wait : ℕ)
-    → made (read id address count wait) ≡ map num (access_lead false id address) ++ map num (read_columns count wait)
+pub made_read : (id address n wait : ℕ) → made (read id address n wait) ≡ access_row false id address wait (replicate n read_bits)
 unfolding access_lead lead made row_for frame_of bits byte_columns
-made_read id address count wait = refl
+made_read id address n wait = refl
 
-pub made_write : (id address : ℕ) (vs : List ℕ) (wait : ℕ)
-    → made (write id address vs wait) ≡ map num (access_lead true id address) ++ map num (write_columns vs wait)
+pub made_write : (id address : ℕ) (vs : List ℕ) (wait : ℕ) → made (write id address vs wait) ≡ access_row true id address wait (map write_bits vs)
 unfolding access_lead lead made row_for frame_of bits byte_columns
 made_write id address vs wait = refl
 
@@ -206,9 +185,13 @@ module _ (writing : Bool) (id address : ℕ) where
   unfolding access_lead lead bits
   length_lead = refl
 
-  pub length_access : (r : Request) (bytes : List Bool) → made r ≡ map num (access_lead writing id address) ++ map num bytes
-      → length (made r) ≡ 32 + length bytes
-  length_access r bytes parts = rw (parts, length-append, length_lead, length-map bytes num)
+  pub length_access : (wait : ℕ) (twelves : List (List Bool))
+      → length (access_row writing id address wait twelves) ≡ 32 + length (byte_columns writing wait 1 twelves)
+  length_access wait twelves = rw (length-append, length_lead, length-map)
+
+  pub length_row : (wait : ℕ) (twelves : List (List Bool)) → Twelves twelves
+      → length (access_row writing id address wait twelves) ≡ 32 + 14 * length twelves + wait * delayed writing (length twelves)
+  length_row wait twelves h = length_access wait twelves ∙ rw (length_bytes writing wait twelves h) (omega arith)
 
 -- Request 03: "in a write the first byte does not, later ones do."
 pub all_but_first : (n : ℕ) → delayed true n ≡ n - 1
@@ -218,14 +201,14 @@ all_but_first (suc n) = omega arith
 -- Read of n bytes: 32 + (14 + wait) n columns; write: 32 + 14 n + wait (n - 1), and of no byte 32; a command 30 and S to EX.
 pub length_read : (id address count wait : ℕ) → length (made (read id address count wait)) ≡ 32 + (14 + wait) * count
 length_read id address count wait =
-    length_access false id address _ (read_columns count wait) (made_read id address count wait)
-    ∙ rw (length_bytes false wait (replicate count read_bits) (reads_twelve count), length-replicate, add-mul)
+    ap length (made_read id address count wait)
+    ∙ rw (length_row false id address wait (replicate count read_bits) (reads_twelve count), length-replicate, add-mul) (omega arith)
 
 pub length_write : (id address : ℕ) (vs : List ℕ) (wait : ℕ)
     → length (made (write id address vs wait)) ≡ 32 + 14 * length vs + wait * (length vs - 1)
 length_write id address vs wait =
-    length_access true id address _ (write_columns vs wait) (made_write id address vs wait)
-    ∙ rw (length_bytes true wait (map write_bits vs) (writes_twelve vs), length-map vs write_bits, all_but_first) (omega arith)
+    ap length (made_write id address vs wait)
+    ∙ rw (length_row true id address wait (map write_bits vs) (writes_twelve vs), length-map vs write_bits, all_but_first)
 
 length_header : (v : ℕ) → length (lead v) ≡ 30
 unfolding lead bits

@@ -1,19 +1,20 @@
-// The job build: a master row for one request, fourteen zeros and one frame. Each call returns Made with the number of columns, or
-// Refused with 10, 5 or 9 and the lent row as it was.
+// The job build: a master row for one request, fourteen zeros and one frame. Each call returns the number of columns, or it refuses by 10, 5
+// or 9 and leaves the lent row as it was.
 #![tactic(auto)]
 
-ghost use Rattle.std.specs.Prelude.{◌≡◌, true, map, ◌++◌, ◌+◌, ◌*◌, ◌^◌, ◌≤◌, ◌<◌, length, replicate};
+ghost use Rattle.std.specs.Prelude.{◌≡◌, Bool, true, false, List, [], ◌∷◌, ◌++◌, map, ℕ, ◌+◌, ◌*◌, ◌^◌, ◌≤◌, ◌<◌, length, get_or, replicate, All};
 ghost use Rattle.std.proofs.lemmas.List.Edits.{sets};
 ghost use Rattle.protocol.specs.Bits.{num, bits};
-ghost use Rattle.protocol.specs.Division.{header_bits, data_bits, check, word};
+ghost use Rattle.protocol.specs.Division.{header_bits, word};
 ghost use Rattle.protocol.specs.Commands.{execute_column};
-ghost use Rattle.protocol.specs.Building.{Request, command_columns};
+ghost use Rattle.protocol.specs.Building.{Request, byte_columns, read_bits, write_bits, command_columns};
+ghost use Rattle.protocol.specs.Memory.{delay_by};
 ghost use Rattle.protocol.specs.Understood.{delayed};
 ghost use Rattle.job.specs.Refusals.{first, given};
-ghost use Rattle.build.specs.Build.{outside_access, refusals, Built};
-ghost use Rattle.build.specs.Parts.{asks, way, access_lead, read_columns, write_columns, Laid, Begun};
+ghost use Rattle.build.specs.Build.{outside_access, rules, Built};
+ghost use Rattle.build.specs.Parts.{way, access_lead, access_row, Accessed, Laid};
 
-use job::{COLUMN_LIMIT, Detail, Outcome};
+use job::{COLUMN_LIMIT, Reason, Refusal};
 
 // The limits of refusal 10 (01, Numbers of refusal).
 const LAST_ID: u8 = 7;
@@ -52,48 +53,240 @@ const ADDRESSED_START: u64 = 256;
 
 const BROADCAST_START: u64 = 2;
 
+// A register access of the slave `id`, from `address` on; `wait` is that slave's waiting number.
+#[derive(Clone, Copy)]
+struct Access<B> {
+    id: u8,
+    address: u8,
+    wait: u8,
+    bytes: B,
+}
+
+// The bytes of an access, read or written. A type for each, since one loop over an enum's took reads as long as the plain program.
+trait Bytes: Copy {
+    ghost written: { Bool };
+
+    // The twelve bits that the master sends in each.
+    ghost twelves: { Self → List (List Bool) };
+
+    fn are_written() -> bool
+        ensures { result ≡ written };
+
+    // How many they are.
+    fn count(self) -> usize
+        ensures count { result ≡ length (twelves self) }
+        ensures each { All (λ bits. length bits ≡ 12) (twelves self) };
+
+    // S, the twelve bits of byte nth, counted from 0, and P, as one number of fourteen bits.
+    fn word(self, nth: usize) -> u64
+        requires { nth < length (twelves self) }
+        ensures { bits 14 result ≡ true ∷ (get_or (twelves self) nth [] ++ false ∷ []) };
+}
+
+// So many to read.
+#[derive(Clone, Copy)]
+struct Reading(usize);
+
+impl Bytes for Reading {
+    ghost written = { false };
+
+    ghost twelves = { λ bytes. replicate bytes.0 read_bits };
+
+    fn are_written() -> bool {
+        false
+    }
+
+    fn count(self) -> usize {
+        self.0
+    }
+
+    fn word(self, _nth: usize) -> u64 {
+        BYTE_START
+    }
+}
+
+// These to write.
+#[derive(Clone, Copy)]
+struct Writing<'a>(&'a [u8]);
+
+impl Bytes for Writing<'_> {
+    ghost written = { true };
+
+    ghost twelves = { λ bytes. map write_bits bytes.0.now };
+
+    fn are_written() -> bool
+        ensures { result ≡ true }
+    {
+        true
+    }
+
+    fn count(self) -> usize {
+        self.0.len()
+    }
+
+    fn word(self, nth: usize) -> u64 {
+        written(self.0[nth])
+    }
+}
+
 // Read `count` registers of the slave `id`, from `address` on; `wait` is that slave's waiting number.
-pub fn build_read(id: u8, address: u8, count: usize, wait: u8, out: &mut [u8]) -> Outcome
+pub fn build_read(
+    id: u8,
+    address: u8,
+    count: usize,
+    wait: u8,
+    out: &mut [u8],
+) -> Result<usize, Refusal>
     ensures { Built (Request.read id address count wait) out.old result out.new }
 {
-    let why = begin(out, id, address, count, wait, false);
-    if why != 0 {
-        return Outcome::Refused(why, Detail::Alone);
-    }
-    let n = put_reads(out, ACCESS, count, wait as usize);
-    Outcome::Made(n)
+    let access = Access {
+        id,
+        address,
+        wait,
+        bytes: Reading(count),
+    };
+    access.build(out)
 }
 
 // Write `bytes` to the registers of the slave `id`, from `address` on; `wait` is that slave's waiting number.
-pub fn build_write(id: u8, address: u8, bytes: &[u8], wait: u8, out: &mut [u8]) -> Outcome
+pub fn build_write(
+    id: u8,
+    address: u8,
+    bytes: &[u8],
+    wait: u8,
+    out: &mut [u8],
+) -> Result<usize, Refusal>
     ensures { Built (Request.write id address bytes.now wait) out.old result out.new }
 {
-    let why = begin(out, id, address, bytes.len(), wait, true);
-    if why != 0 {
-        return Outcome::Refused(why, Detail::Alone);
-    }
-    let n = put_writes(out, ACCESS, bytes, wait as usize);
-    Outcome::Made(n)
+    let access = Access {
+        id,
+        address,
+        wait,
+        bytes: Writing(bytes),
+    };
+    access.build(out)
 }
 
 // Send the command `cmd` to the slaves that `ids` selects, all of them where it is 0, and execute it or not. Its first 30 columns are the
 // header alone.
-pub fn build_command(ids: u8, cmd: u8, execute: bool, out: &mut [u8]) -> Outcome
+pub fn build_command(ids: u8, cmd: u8, execute: bool, out: &mut [u8]) -> Result<usize, Refusal>
     ensures { Built (Request.command ids cmd execute) out.old result out.new }
 {
     if LAST_COMMAND < cmd {
-        return Outcome::Refused(10, Detail::Alone);
+        return Err(Refusal::from(Reason::OutOfRange));
     }
-    let behind = behind_header(ids);
-    if out.len() < COMMAND + behind {
-        return Outcome::Refused(9, Detail::Alone);
+    let columns = COMMAND + behind_header(ids);
+    if out.len() < columns {
+        return Err(Refusal::from(Reason::NoRoom));
     }
     let start = frame_head(ids as u16 * 4 + cmd as u16);
-    let n = put_bits(out, 0, COMMAND + behind, up_to_execute(ids, start, execute));
-    Outcome::Made(n)
+    Ok(put_bits(out, 0, columns, up_to_execute(ids, start, execute)))
+}
+
+impl<B: Bytes> Access<B> {
+    // Puts the row and returns its columns, or tells why the access is refused.
+    fn build(self, out: &mut [u8]) -> Result<usize, Refusal>
+        ensures { Accessed B.written self.id self.address self.wait (B.twelves self.bytes) out.old result out.new }
+    {
+        self.refused(out.len())?;
+        self.put_head(out);
+        Ok(self.put_bytes(out))
+    }
+
+    // 10, 5 or 9.
+    #[tactic(auto, using(std::proofs::lemmas::Bool::Decides::nat_tests, crate::proofs::Requests::inside), unfolding(job::specs::Refusals::first))]
+    fn refused(self, room: usize) -> Result<(), Reason>
+        ensures { given result ≡ first (rules
+            (outside_access self.id self.address (length (B.twelves self.bytes)))
+            (length (access_row B.written self.id self.address self.wait (B.twelves self.bytes)))
+            room) }
+    {
+        if self.is_outside() {
+            return Err(Reason::OutOfRange);
+        }
+        let columns = self.columns();
+        if COLUMN_LIMIT < columns {
+            Err(Reason::TooManyColumns)
+        } else if room < columns {
+            Err(Reason::NoRoom)
+        } else {
+            Ok(())
+        }
+    }
+
+    #[tactic(auto, using(std::proofs::lemmas::Bool::Decides::nat_tests), unfolding(crate::specs::Build::outside_access))]
+    fn is_outside(self) -> bool
+        ensures { result ≡ outside_access self.id self.address (length (B.twelves self.bytes)) }
+    {
+        let count = self.bytes.count();
+        LAST_ID < self.id
+            || LAST_ADDRESS < self.address
+            || count == 0
+            || BYTES < count
+            || ADDRESSES < self.address as usize + count
+    }
+
+    // How many columns its row has.
+    #[tactic(auto, using(crate::proofs::Requests::few_waits))]
+    fn columns(self) -> usize
+        requires { (0 < length (B.twelves self.bytes)) × (length (B.twelves self.bytes) ≤ 64) }
+        ensures { result ≡ length (access_row B.written self.id self.address self.wait (B.twelves self.bytes)) }
+    {
+        ACCESS + BYTE * self.bytes.count() + self.wait as usize * self.delayed()
+    }
+
+    // How many of its bytes wait: all of a read, and all but the first of a write.
+    fn delayed(self) -> usize
+        requires { 0 < length (B.twelves self.bytes) }
+        ensures { (result ≡ delayed B.written (length (B.twelves self.bytes))) × (result ≤ length (B.twelves self.bytes)) }
+    {
+        let count = self.bytes.count();
+        if B::are_written() { count - 1 } else { count }
+    }
+
+    // How often byte nth waits, counted from 0.
+    #[tactic(auto, using(std::proofs::lemmas::Bool::Decides::nat_tests), unfolding(protocol::specs::Memory::delay_by))]
+    fn delay(self, nth: usize) -> usize
+        ensures { (result ≡ delay_by self.wait B.written (nth + 1)) × (result < 256) }
+    {
+        if B::are_written() && nth == 0 {
+            0
+        } else {
+            self.wait as usize
+        }
+    }
+
+    // Fourteen zeros, S, the header, R and W.
+    fn put_head(self, out: &mut [u8])
+        requires { (32 ≤ length out.old) × (self.id < 8) × (self.address < 128) }
+        ensures { out.new ≡ sets out.old 0 (map num (access_lead B.written self.id self.address)) }
+    {
+        let start = frame_head(1024 + self.id as u16 * 128 + self.address as u16);
+        put_bits(out, 0, ACCESS, 4 * start + Self::way());
+    }
+
+    // R and W as one number.
+    fn way() -> u64
+        ensures { (result ≡ way B.written) × (result < 4) }
+    {
+        if B::are_written() { WRITES } else { READS }
+    }
+
+    // For each byte S, as often as it waits and once more, its twelve bits, and P; returns the column behind them.
+    fn put_bytes(self, out: &mut [u8]) -> usize
+        requires { 32 + length (byte_columns B.written self.wait 1 (B.twelves self.bytes)) ≤ length out.old }
+        ensures { Laid (byte_columns B.written self.wait 1 (B.twelves self.bytes)) 32 out.old result out.new }
+    {
+        let mut at = ACCESS;
+        for nth in 0..self.bytes.count() {
+            at = put_byte(out, at, self.delay(nth), self.bytes.word(nth));
+        }
+        at
+    }
 }
 
 // How many columns a command takes behind its header.
+#[tactic(auto, using(std::proofs::lemmas::Bool::Decides::nat_tests), unfolding(protocol::specs::Commands::execute_column))]
 fn behind_header(ids: u8) -> usize
     ensures { (result ≡ execute_column ids + 1) × (result ≤ 9) }
 {
@@ -106,132 +299,19 @@ fn up_to_execute(ids: u8, start: u64, execute: bool) -> u64
     ensures { bits (30 + (execute_column ids + 1)) result ≡ bits 30 start ++ command_columns ids execute }
 {
     if ids == 0 {
-        4 * start + BROADCAST_START + bit_of(execute)
+        4 * start + BROADCAST_START + u64::from(execute)
     } else {
-        512 * start + ADDRESSED_START + bit_of(execute)
+        512 * start + ADDRESSED_START + u64::from(execute)
     }
-}
-
-fn bit_of(b: bool) -> u64
-    ensures { (result ≡ num b) × (result < 2) }
-{
-    if b { 1 } else { 0 }
-}
-
-// Returns why a register access of so many bytes is refused; where it is not, returns 0 and puts its first 32 columns.
-fn begin(out: &mut [u8], id: u8, address: u8, count: usize, wait: u8, writing: bool) -> u8
-    ensures { Begun (asks writing id address count wait) (access_lead writing id address) out.old result out.new }
-{
-    let why = refusal(id, address, count, wait, writing, out.len());
-    if why == 0 {
-        put_access(out, id, address, writing);
-    }
-    why
-}
-
-// 10, 5 or 9, or 0 where a register access of so many bytes is refused by none of them.
-fn refusal(id: u8, address: u8, count: usize, wait: u8, writing: bool, room: usize) -> u8
-    ensures { given result ≡ first (refusals (asks writing id address count wait) room) }
-{
-    if outside(id, address, count) {
-        return 10;
-    }
-    let n = columns_of(count, wait, writing);
-    if COLUMN_LIMIT < n {
-        5
-    } else if room < n {
-        9
-    } else {
-        0
-    }
-}
-
-// How many columns a register access of so many bytes takes.
-fn columns_of(count: usize, wait: u8, writing: bool) -> usize
-    requires { (0 < count) × (count ≤ 64) }
-    ensures { result ≡ 32 + 14 * count + wait * delayed writing count }
-{
-    ACCESS + BYTE * count + wait as usize * delayed_of(count, writing)
-}
-
-// How many of so many bytes wait: all of a read, and all but the first of a write.
-fn delayed_of(count: usize, writing: bool) -> usize
-    requires { 0 < count }
-    ensures { (result ≡ delayed writing count) × (result ≤ count) }
-{
-    if writing { count - 1 } else { count }
-}
-
-fn outside(id: u8, address: u8, count: usize) -> bool
-    ensures { result ≡ outside_access id address count }
-{
-    if LAST_ID < id {
-        return true;
-    }
-    if LAST_ADDRESS < address {
-        return true;
-    }
-    if count == 0 {
-        return true;
-    }
-    if BYTES < count {
-        return true;
-    }
-    let end = address as usize + count;
-    ADDRESSES < end
-}
-
-// Fourteen zeros, S, the header, R and W; returns the column behind them.
-fn put_access(out: &mut [u8], id: u8, address: u8, writing: bool) -> usize
-    requires { (32 ≤ length out.old) × (id < 8) × (address < 128) }
-    ensures { (result ≡ 32) × (out.new ≡ sets out.old 0 (map num (access_lead writing id address))) }
-{
-    let start = frame_head(1024 + id as u16 * 128 + address as u16);
-    put_bits(out, 0, ACCESS, 4 * start + way_of(writing))
-}
-
-fn way_of(writing: bool) -> u64
-    ensures { (result ≡ way writing) × (result < 4) }
-{
-    if writing { WRITES } else { READS }
 }
 
 // S and the header of eleven bits with their check, as one number of sixteen bits.
+#[tactic(auto, using(protocol::proofs::Division::check_lt), unfolding(protocol::specs::Division::word))]
 fn frame_head(header: u16) -> u64
     requires { header < 2048 }
     ensures { (result ≡ 2 ^ 15 + word header_bits header) × (result < 2 ^ 16) }
 {
     HEADER_START + 16 * header as u64 + checkbits::header_check(header) as u64
-}
-
-// For each byte S, as often as it waits and once more, twelve zeros and P.
-fn put_reads(out: &mut [u8], at: usize, count: usize, wait: usize) -> usize
-    requires { at + length (read_columns count wait) ≤ length out.old }
-    ensures { Laid (read_columns count wait) at out.old result out.new }
-{
-    let mut p = at;
-    let mut i = 0;
-    while i < count {
-        p = put_byte(out, p, wait, BYTE_START);
-        i += 1;
-    }
-    p
-}
-
-// For each byte S, as often as it waits and once more, the byte with its check, and P. The first byte does not wait.
-fn put_writes(out: &mut [u8], at: usize, bytes: &[u8], wait: usize) -> usize
-    requires { at + length (write_columns bytes.now wait) ≤ length out.old }
-    ensures { Laid (write_columns bytes.now wait) at out.old result out.new }
-{
-    let mut p = at;
-    let mut delay = 0;
-    let mut i = 0;
-    while i < bytes.len() {
-        p = put_byte(out, p, delay, written(bytes[i]));
-        delay = wait;
-        i += 1;
-    }
-    p
 }
 
 // S so many times, and then a byte's S, twelve bits and P, which are the lowest fourteen bits of w.
@@ -245,7 +325,7 @@ fn put_byte(out: &mut [u8], at: usize, delay: usize, w: u64) -> usize
 
 // S, a byte with its check, and P, as one number of fourteen bits.
 fn written(b: u8) -> u64
-    ensures { result ≡ 8192 + 32 * b + 2 * check data_bits b }
+    ensures { bits 14 result ≡ true ∷ (write_bits b ++ false ∷ []) }
 {
     BYTE_START + 32 * b as u64 + 2 * checkbits::byte_check(b) as u64
 }
@@ -255,14 +335,9 @@ fn put_ones(out: &mut [u8], at: usize, n: usize) -> usize
     requires { at + n ≤ length out.old }
     ensures { (result ≡ at + n) × (out.new ≡ sets out.old at (map num (replicate n true))) }
 {
-    let mut left = n;
-    let mut p = at;
-    while 0 < left {
-        left -= 1;
-        out[p] = 1;
-        p += 1;
-    }
-    p
+    let end = at + n;
+    out[at..end].fill(1);
+    end
 }
 
 // Puts the lowest n bits of w at `at`, highest first, a column each, and returns the column behind them.
@@ -270,12 +345,8 @@ fn put_bits(out: &mut [u8], at: usize, n: usize, w: u64) -> usize
     requires { (at + n ≤ length out.old) × (n ≤ 64) }
     ensures { (result ≡ at + n) × (out.new ≡ sets out.old at (map num (bits n w))) }
 {
-    let mut left = n;
-    let mut p = at;
-    while 0 < left {
-        left -= 1;
-        out[p] = ((w >> left) % 2) as u8;
-        p += 1;
+    for place in 0..n {
+        out[at + place] = ((w >> (n - 1 - place)) % 2) as u8;
     }
-    p
+    at + n
 }

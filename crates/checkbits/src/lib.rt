@@ -8,22 +8,19 @@ ghost use Rattle.std.specs.Prelude.{◌≡◌, ◌<◌};
 ghost use Rattle.protocol.specs.Division.{header_bits, data_bits, check_width, polynomial, divide_bit, divide, check, fits};
 ghost use Rattle.protocol.specs.Bits.{push};
 
-use table::{ACCESS_CHECKS, COMMAND_CHECKS};
-
-// CTS, the highest of the eleven bits.
-const CTS: usize = 1024;
+use table::HEADER_CHECKS;
 
 // The polynomial with its top bit, 10011: taken out of a word it cuts that bit off.
 const POLYNOMIAL: u32 = 0x13;
 
-// The remainders of the sixteen words of four bits, four bits each, that of 0 lowest.
-const REMAINDERS: u64 = 0x2147_ed8b_9afc_5630;
+// The remainders of the sixteen words of four bits.
+static REMAINDERS: [u64; 16] = [0, 3, 6, 5, 12, 15, 10, 9, 11, 8, 13, 14, 7, 4, 1, 2];
 
 // The four check bits that follow the lowest eleven bits of `word`: CTS and the ten bits behind it.
 pub fn header_check(word: u16) -> u8
     ensures { result ≡ check header_bits word }
 {
-    at((word % 2048) as usize)
+    HEADER_CHECKS[(word % 2048) as usize]
 }
 
 // The four check bits that follow a data byte: what remains of its eight bits, sent inverted (docs/CHECK.md works one by hand).
@@ -33,7 +30,8 @@ pub fn byte_check(value: u8) -> u8
     15 - divided(8, value, 0) as u8
 }
 
-// What remains after the lowest `left` bits of a value, highest first: take one bit and then the rest.
+// What remains after the lowest `left` bits of a value, highest first. It calls itself, and is no loop, since the check is to be written as
+// it is taught: "take one bit and then the rest" (Request 04).
 fn divided(left: u8, value: u8, remainder: u32) -> u32
     requires { (left < 9) × (remainder < 16) }
     ensures { (result ≡ divide check_width polynomial left value remainder) × (result < 16) }
@@ -48,7 +46,7 @@ fn divided(left: u8, value: u8, remainder: u32) -> u32
 }
 
 // One bit into the remainder: the word one place up, the bit added to its leading bit, and where that is then 1 the polynomial goes into
-// it once.
+// it once. The remainder is kept in 32 bits: in eight a long write takes as long as the plain program's.
 fn divided_bit(remainder: u32, bit: bool) -> u32
     requires { remainder < 16 }
     ensures { (result ≡ divide_bit check_width polynomial remainder bit) × (result < 16) }
@@ -66,8 +64,7 @@ fn four(before: u64, bits: u64) -> u64
     requires { before < 16 }
     ensures { (result ≡ divide check_width polynomial check_width bits before) × (result < 16) }
 {
-    let place = 4 * ((before ^ bits) % 16);
-    (REMAINDERS >> place) % 16
+    REMAINDERS[((before ^ bits) % 16) as usize]
 }
 
 // Whether the last four bits of a header's fifteen are the check bits of the eleven before them, which are three, four and four.
@@ -87,20 +84,9 @@ pub fn byte_fits(word: u64) -> bool
     word % 16 == byte_check((word / 16 % 256) as u8) as u64
 }
 
-// A word with one bit more, the newest lowest; the last sixteen are kept.
+// A word with one bit more, the newest lowest; the last sixteen are kept. It has 64 bits, since the reader's and the slave's words have.
 pub fn pushed(word: u64, bit: bool) -> u64
     ensures { (result ≡ push word bit) × (result < 65536) }
 {
     word % 32768 * 2 + bit as u64
-}
-
-fn at(word: usize) -> u8
-    requires { word < 2048 }
-    ensures { result ≡ check header_bits word }
-{
-    if word < CTS {
-        COMMAND_CHECKS[word]
-    } else {
-        ACCESS_CHECKS[word - CTS]
-    }
 }

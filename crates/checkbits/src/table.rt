@@ -1,9 +1,7 @@
-// The check bits of every eleven-bit header word, sent inverted: 2,048 entries, in two halves by CTS, since a lookup costs as much as the
-// array that it looks into is long.
-
-// CTS = 0, a command: entry w is the check of w.
-pub const COMMAND_CHECKS: [u8; 1024] = [
-    // IDS 00 to 1f
+// The check bits of every eleven-bit header word, sent inverted: entry w is the check of w. A static, since a constant array is built anew
+// at every lookup.
+pub static HEADER_CHECKS: [u8; 2048] = [
+    // CTS = 0, a command: IDS 00 to 1f
     15, 12, 9, 10, 3, 0, 5, 6, 4, 7, 2, 1, 8, 11, 14, 13, 10, 9, 12, 15, 6, 5, 0, 3, 1, 2, 7, 4,
     13, 14, 11, 8, 5, 6, 3, 0, 9, 10, 15, 12, 14, 13, 8, 11, 2, 1, 4, 7, 0, 3, 6, 5, 12, 15, 10, 9,
     11, 8, 13, 14, 7, 4, 1, 2, 8, 11, 14, 13, 4, 7, 2, 1, 3, 0, 5, 6, 15, 12, 9, 10, 13, 14, 11, 8,
@@ -51,11 +49,7 @@ pub const COMMAND_CHECKS: [u8; 1024] = [
     4, 1, 2, 11, 8, 13, 14, 4, 7, 2, 1, 8, 11, 14, 13, 15, 12, 9, 10, 3, 0, 5, 6, 1, 2, 7, 4, 13,
     14, 11, 8, 10, 9, 12, 15, 6, 5, 0, 3, 14, 13, 8, 11, 2, 1, 4, 7, 5, 6, 3, 0, 9, 10, 15, 12, 11,
     8, 13, 14, 7, 4, 1, 2, 0, 3, 6, 5, 12, 15, 10, 9,
-];
-
-// CTS = 1, a register access: entry w is the check of 1,024 + w.
-pub const ACCESS_CHECKS: [u8; 1024] = [
-    // ID 0, address 0
+    // CTS = 1, a register access: ID 0, address 0
     6, 5, 0, 3, 10, 9, 12, 15, 13, 14, 11, 8, 1, 2, 7, 4, 3, 0, 5, 6, 15, 12, 9, 10, 8, 11, 14, 13,
     4, 7, 2, 1, 12, 15, 10, 9, 0, 3, 6, 5, 7, 4, 1, 2, 11, 8, 13, 14, 9, 10, 15, 12, 5, 6, 3, 0, 2,
     1, 4, 7, 14, 13, 8, 11, 1, 2, 7, 4, 13, 14, 11, 8, 10, 9, 12, 15, 6, 5, 0, 3, 4, 7, 2, 1, 8,

@@ -2,20 +2,72 @@
 // what is told of such a place: number, line and byte.
 #![tactic(auto)]
 
-ghost use Rattle.std.specs.Prelude.{◌≡◌, map, ◌∷◌, [], ◌+◌, ◌≤◌, ◌<◌, length, drop};
-ghost use Rattle.protocol.specs.Text.{Form, has, lacking, column_form, begins};
-ghost use Rattle.protocol.specs.Fault.{line_at, byte_at, form_at, stop, end_number, fault_number};
+ghost use Rattle.std.specs.Prelude.{◌≡◌, map, ◌+◌, ◌%◌, ◌≤◌, ◌<◌, length, drop};
+ghost use Rattle.protocol.specs.Text.{exactly, has, lacking, column_form, begins};
+ghost use Rattle.protocol.specs.Fault.{line_at, byte_at, form_at, stop, end_number, fault_by, fault_at};
+ghost use Rattle.job.specs.Refusals.{number};
+ghost use Rattle.cursor.specs.Cursor.{form_of, fault_of};
+
+use job::Reason;
 
 // Text: "header `cdm` TAB `cds` LF, then digit TAB digit LF for each column".
-const NAMES: [u8; HEADER] = *b"cdm\tcds\n";
+pub const NAMES: [u8; HEADER] = *b"cdm\tcds\n";
 
 const TAB: u8 = b'\t';
 
 const FEED: u8 = b'\n';
 
-const HEADER: usize = 8;
+pub const HEADER: usize = 8;
 
-const LINE: usize = 4;
+pub const LINE: usize = 4;
+
+// What a byte has to be: this one, in the header; in a column's line a digit 0 or 1, its TAB, its LF.
+#[derive(Clone, Copy)]
+enum Form {
+    Exactly(u8),
+    Bit,
+    Tab,
+    Feed,
+}
+
+impl Form {
+    // The form of the byte at a place of a text.
+    fn at(place: usize) -> Self
+        ensures { form_of result ≡ form_at place }
+    {
+        if place < HEADER {
+            return Form::Exactly(NAMES[place]);
+        }
+        match place % LINE {
+            1 => Form::Tab,
+            3 => Form::Feed,
+            _ => Form::Bit,
+        }
+    }
+
+    fn has(self, byte: u8) -> bool
+        ensures { result ≡ has (form_of self) byte }
+    {
+        match self {
+            Form::Exactly(name) => byte == name,
+            Form::Bit => matches!(byte, b'0' | b'1'),
+            Form::Tab => byte == TAB,
+            Form::Feed => byte == FEED,
+        }
+    }
+
+    // "13 any wrong byte of the header line, below it 14 digit not 0 or 1, 15 tab missing, 16 line feed missing"
+    fn lacking(self) -> Reason
+        ensures { number result ≡ lacking (form_of self) }
+    {
+        match self {
+            Form::Exactly(_) => Reason::WrongHeader,
+            Form::Bit => Reason::WrongDigit,
+            Form::Tab => Reason::NoTab,
+            Form::Feed => Reason::NoFeed,
+        }
+    }
+}
 
 // Text: "The text is walked by a cursor that holds the lent text and its place."
 #[derive(Clone, Copy)]
@@ -24,45 +76,44 @@ pub struct Cursor<'a> {
     pub at: usize,
 }
 
-// A cursor at the start of a text.
-pub fn new<'a>(text: &'a [u8]) -> Cursor<'a>
-    ensures { (result.text ≡ text.entry) × (result.at ≡ 0) }
-{
-    Cursor { text, at: 0 }
-}
-
-// The line walk: the cursor moved on to the first byte that has not its form, or to the end.
-pub fn walked<'a>(cursor: Cursor<'a>) -> Cursor<'a>
-    ensures { (result.text ≡ cursor.entry.text) × (result.at ≡ stop cursor.entry.at (drop cursor.entry.at cursor.entry.text.now)) }
-{
-    let at = stop_from(cursor.text, cursor.at);
-    Cursor {
-        text: cursor.text,
-        at,
+impl<'a> Cursor<'a> {
+    // A cursor at the start of a text.
+    pub fn new(text: &'a [u8]) -> Self
+        ensures { (result.text ≡ text.entry) × (result.at ≡ 0) }
+    {
+        Cursor { text, at: 0 }
     }
-}
 
-pub fn place<'a>(cursor: Cursor<'a>) -> usize
-    ensures { result ≡ cursor.entry.at }
-{
-    cursor.at
+    // The line walk: the cursor moved on to the first byte that has not its form, or to the end.
+    pub fn walked(self) -> Self
+        ensures { (result.text ≡ self.entry.text) × (result.at ≡ stop self.entry.at (drop self.entry.at self.entry.text.now)) }
+    {
+        let at = stop_from(self.text, self.at);
+        Cursor { at, ..self }
+    }
+
+    pub fn place(self) -> usize
+        ensures { result ≡ self.entry.at }
+    {
+        self.at
+    }
 }
 
 // The stop of a text, for callers that hold no cursor.
 pub fn stop_of(text: &[u8]) -> usize
     ensures { result ≡ stop 0 text.now }
 {
-    place(walked(new(text)))
+    Cursor::new(text).walked().place()
 }
 
 // The stop of what is left of a text at a place.
 fn stop_from(text: &[u8], at: usize) -> usize
     ensures { result ≡ stop at (drop at text.now) }
 {
-    if text.len() < at {
-        return at;
+    match text.get(at..) {
+        Some(piece) => stop_in(piece, at) + at,
+        None => at,
     }
-    stop_in(&text[at..], at) + at
 }
 
 // For a text that comes in pieces: how far into a piece its stop is, where so many bytes of the text are before it. Below the header
@@ -77,109 +128,70 @@ pub fn stop_in(piece: &[u8], place: usize) -> usize
     }
 }
 
-// Whole lines first, and byte by byte what is left: the rest of a line that began before the piece, and a line that is bad or cut short.
+// Byte by byte to the start of a column's line, and from there by lines.
 fn walk(piece: &[u8], before: usize) -> usize
     requires { before < 12 }
     ensures { result + before ≡ stop before piece.now }
 {
-    let mut p = past_lines(piece, past_header(piece, before), before);
-    while p < piece.len() {
-        if is_formed(p + before, piece[p]) {
-            p = past_lines(piece, p + 1, before);
-        } else {
-            return p;
-        }
-    }
-    p
-}
-
-// Past the header, where a whole one begins here.
-fn past_header(piece: &[u8], before: usize) -> usize
-    ensures { (result ≤ length piece.now) × (stop (result + before) (drop result piece.now) ≡ stop before piece.now) }
-{
-    if before != 0 {
-        return 0;
-    }
-    if begins_with(piece, &NAMES) {
-        HEADER
+    let start = before.max(HEADER).div_ceil(LINE) * LINE;
+    let (front, lines) = piece.split_at(piece.len().min(start - before));
+    let begun = formed(front, before);
+    if begun < front.len() {
+        begun
     } else {
-        0
+        begun + in_lines(lines)
     }
 }
 
-// From the start of a column's line past all lines that have their form; from any other place nowhere.
-fn past_lines(piece: &[u8], from: usize, before: usize) -> usize
-    requires { (from ≤ length piece.now) × (before < 12) }
-    ensures { (from ≤ result) × (result ≤ length piece.now) × (stop (result + before) (drop result piece.now) ≡ stop (from + before) (drop from piece.now)) }
+// How far bytes that begin with a column's line have their form: by whole lines, and byte by byte a line that is bad or cut short.
+fn in_lines(lines: &[u8]) -> usize
+    ensures { result + 8 ≡ stop 8 lines.now }
 {
-    if from + before < HEADER {
-        return from;
-    }
-    if (from + before) % LINE != 0 {
-        return from;
-    }
-    let mut i = from;
-    while LINE <= piece.len() - i {
-        if is_column(piece[i], piece[i + 1], piece[i + 2], piece[i + 3]) {
-            i += LINE;
-        } else {
+    let past = past_lines(lines);
+    past + formed(&lines[past..], HEADER)
+}
+
+// How many bytes at the front of a piece have their form.
+fn formed(piece: &[u8], before: usize) -> usize
+    requires { before < 12 }
+    ensures { result + before ≡ stop before piece.now }
+{
+    for (i, byte) in piece.iter().enumerate() {
+        if !Form::at(i + before).has(*byte) {
             return i;
         }
     }
-    i
+    piece.len()
+}
+
+// Past all whole lines that have their form.
+fn past_lines(bytes: &[u8]) -> usize
+    ensures within { result ≤ length bytes.now }
+    ensures whole { result % 4 ≡ 0 }
+    ensures left { stop (result + 8) (drop result bytes.now) ≡ stop 8 bytes.now }
+{
+    let (lines, _) = bytes.as_chunks::<LINE>();
+    for (i, line) in lines.iter().enumerate() {
+        if !is_column(line) {
+            return LINE * i;
+        }
+    }
+    LINE * lines.len()
 }
 
 // Whether a text begins with these bytes.
 pub fn begins_with(text: &[u8], line: &[u8]) -> bool
-    ensures { result ≡ begins (map Form.exactly line.now) text.now }
+    ensures { result ≡ begins (map exactly line.now) text.now }
 {
-    if text.len() < line.len() {
-        return false;
-    }
-    let mut j = 0;
-    while j < line.len() {
-        if text[j] != line[j] {
-            return false;
-        }
-        j += 1;
-    }
-    true
+    text.starts_with(line)
 }
 
 // "digit TAB digit LF"
-fn is_column(cdm: u8, tab: u8, cds: u8, feed: u8) -> bool
-    ensures { result ≡ begins column_form (cdm ∷ tab ∷ cds ∷ feed ∷ []) }
+#[tactic(auto, using(crate::proofs::Lines::column_bytes))]
+fn is_column(line: &[u8; LINE]) -> bool
+    ensures { result ≡ begins column_form line.now }
 {
-    if is_bit(cdm) {
-        if tab == TAB {
-            if is_bit(cds) { feed == FEED } else { false }
-        } else {
-            false
-        }
-    } else {
-        false
-    }
-}
-
-// The byte at a place of a text has its form.
-fn is_formed(place: usize, byte: u8) -> bool
-    ensures { result ≡ has (form_at place) byte }
-{
-    if place < HEADER {
-        return byte == NAMES[place];
-    }
-    match place % LINE {
-        1 => byte == TAB,
-        3 => byte == FEED,
-        _ => is_bit(byte),
-    }
-}
-
-// A digit 0 or 1.
-fn is_bit(byte: u8) -> bool
-    ensures { result ≡ has Form.bit byte }
-{
-    if byte == b'0' { true } else { byte == b'1' }
+    matches!(line, [b'0' | b'1', TAB, b'0' | b'1', FEED])
 }
 
 // The line of a place in a text, from 1 ..
@@ -204,40 +216,26 @@ pub fn byte_at(place: usize) -> u8
     }
 }
 
-// The number of a text that stops at a place and has this end, 0 where nothing is wrong.
-pub fn fault_number(at: usize, end: usize) -> u8
-    ensures { result ≡ fault_number at end }
+// Why a text that stops at a place and has this end is refused, if it is.
+pub fn fault(at: usize, end: usize) -> Option<Reason>
+    ensures { fault_of at result ≡ fault_at at end }
 {
     if at == end {
-        end_number(at)
+        end_fault(at)
     } else {
-        byte_number(at)
+        Some(Form::at(at).lacking())
     }
 }
 
 // "17 text ends inside any line; an empty text is 13"
-fn end_number(place: usize) -> u8
-    ensures { result ≡ end_number place }
+fn end_fault(place: usize) -> Option<Reason>
+    ensures { fault_of place result ≡ fault_by (end_number place) place }
 {
     if place == 0 {
-        13
+        Some(Reason::WrongHeader)
     } else if byte_at(place) == 0 {
-        0
+        None
     } else {
-        17
-    }
-}
-
-// "13 any wrong byte of the header line, below it 14 digit not 0 or 1, 15 tab missing, 16 line feed missing"
-fn byte_number(place: usize) -> u8
-    ensures { result ≡ lacking (form_at place) }
-{
-    if place < HEADER {
-        return 13;
-    }
-    match place % LINE {
-        1 => 15,
-        3 => 16,
-        _ => 14,
+        Some(Reason::TextCut)
     }
 }

@@ -1,6 +1,6 @@
 -- What an accepted run leaves: its answer row, that its two rows are rows to read, and what protocol demands of their list.
 -- Assumes nothing.
-use mathlib.Core.Path.{◌≡◌, refl, sym, ap, ◌∙◌}
+use mathlib.Core.Path.{◌≡◌, sym, ap, ◌∙◌}
 use mathlib.Core.Bool.{true, false}
 use mathlib.Core.List.{List, map}
 use mathlib.Core.Option.{none}
@@ -23,7 +23,7 @@ use Rattle.protocol.proofs.Counts.{executions_long, executions_few}
 use Rattle.protocol.proofs.Demands as protocol
 use Rattle.job.specs.Refusals.{first, lent, lent_after}
 use Rattle.job.specs.Rows.{wrong_rows}
-use Rattle.job.specs.declared.Outcome.TheVariants.{Made}
+use Rattle.std.specs.Prelude.{Ok}
 use Rattle.job.proofs.Bits.{num_bits}
 use Rattle.job.proofs.Refusals.{was_made, laid_whole}
 use Rattle.job.proofs.Rows.{not_wrong}
@@ -41,7 +41,7 @@ use Rattle.demands.specs.Lent.{are_bytes}
 use Rattle.demands.proofs.Chains.{memories_bytes, memories_paired, memories_uncounted, memories_many, counts_joined, registers_back, replay_length}
 
 module _ {slaves c : ℕ} {table rights waits registers counts cdm cds registers' counts' cds' : List ℕ}
-    (ran : Ran slaves table rights waits registers counts cdm cds (Made c) registers' counts' cds') where
+    (ran : Ran slaves table rights waits registers counts cdm cds (Ok c) registers' counts' cds') where
   -- The chain's memories as they were lent.
   abbrev chain : List Memory
   chain = memories_of table registers rights waits
@@ -78,7 +78,7 @@ module _ {slaves c : ℕ} {table rights waits registers counts cdm cds registers
         cdm_bits = master_bits slaves table registers rights waits counts cdm cds through;
         cds_bits = rw row_bytes (num_bits (answers_from chain (row_of cdm)));
       }) in
-      sym (rows_good cdm cds' k {why = 0} (sym right) refl h)
+      sym (rows_good cdm cds' k (sym right) h)
 
   pub rows_read : (k : ℕ) (out : List ℕ) → k ≤ length cdm → entry_bytes current * length cdm ≤ length out
       → first (Read.refusals cdm cds' k (length out)) ≡ none

@@ -23,8 +23,8 @@ use Rattle.protocol.proofs.Late.{masters, masters_columns}
 use Rattle.protocol.proofs.Demands as protocol
 use Rattle.job.specs.Refusals.{first, lent, lent_after}
 use Rattle.job.specs.Rows.{row_rules, wrong_rows}
-use Rattle.job.specs.declared.Outcome.{Outcome}
-use Rattle.job.specs.declared.Outcome.TheVariants.{Made}
+use Rattle.std.specs.Prelude.{Result, Ok}
+use Rattle.job.specs.declared.Refusal.{Refusal}
 use Rattle.job.proofs.Refusals.{no, none_before, was_made, ended_none, result_first}
 use Rattle.read.specs.Read.{list_of, rows_refusals, refusals, Listed}
 use Rattle.read.proofs.Bytes.{Small, small_list}
@@ -66,7 +66,7 @@ bare_drop (suc n) [] = refl
 bare_drop (suc n) (e ∷ es) = bare_drop n es
 
 -- What it says that read made a list.
-module _ {cdm cds out after : List ℕ} {k n : ℕ} (listed : Listed cdm cds k out (Made n) after) where
+module _ {cdm cds out after : List ℕ} {k n : ℕ} (listed : Listed cdm cds k out (Ok n) after) where
   pub list_count : n ≡ length (list_of k cdm cds)
   list_count = (was_made listed.ends).1
 
@@ -128,14 +128,14 @@ module _ {cdm cds out after : List ℕ} {k n : ℕ} (listed : Listed cdm cds k o
         let small : Small (length cdm) e
         = every_at _ (list_of k cdm cds) i e (small_list k cdm cds (rows_through cdm cds k through).within) there in
         let right = none_before (wrong_rows cdm cds) _ through in
-        sym (rows_good cdm cds (e.entry.place.start - rest_zeros) {why = 0} (sym right) refl (omega arith))
+        sym (rows_good cdm cds (e.entry.place.start - rest_zeros) (sym right) (omega arith))
 
   list_fits : length (list_bytes current (list_of k cdm cds)) ≤ length out
   unfolding refusals rows_refusals wrong_rows row_rules
   list_fits = ltb-false _ _ (no 9 _ (was_made listed.ends).0)
 
 -- Opened at the frame of entry e, entry i of a list that read made.
-module _ {cdm cds out after out' after' : List ℕ} {k n i : ℕ} {outcome : Outcome} (listed : Listed cdm cds k out (Made n) after) where
+module _ {cdm cds out after out' after' : List ℕ} {k n i : ℕ} {outcome : Result ℕ Refusal} (listed : Listed cdm cds k out (Ok n) after) where
   reopened_at : (e : Banked) → get_elem? (list_of k cdm cds) i ≡ some e → Listed cdm cds (e.entry.place.start - rest_zeros) out' outcome after'
       → length out ≤ length out' → Reopened n i (list_in n after) outcome after'
   unfolding list_of bare_at
@@ -148,8 +148,8 @@ module _ {cdm cds out after out' after' : List ℕ} {k n i : ℕ} {outcome : Out
       let count : length late ≡ n - from = sym (bare_long late) ∙ rw (same, length-drop, bare_long list, list_count listed) in
       let enough : length (list_bytes current late) ≤ length out'
       = omega (arith, length_list current late, length_list current list, list_fits listed, list_count listed) in
-      let made : outcome ≡ Made (n - from)
-      = ended_none again.ends (not_refused cdm cds _ out' (rows_again listed i e there) enough) ∙ ap Made count in
+      let made : outcome ≡ Ok (n - from)
+      = ended_none again.ends (not_refused cdm cds _ out' (rows_again listed i e there) enough) ∙ ap Ok count in
       let entries : entries_in current (list_in (n - from) after') ≡ late = list_entries (rw made at again) in
       let on : from + (i - from) ≡ i = omega (arith, at.not_it) in
       record {

@@ -13,9 +13,10 @@ use Rattle.protocol.specs.Fault.{Fault, text_fault}
 use Rattle.laws.proofs.Every.{tested}
 use Rattle.protocol.proofs.Text.{Back, there_and_back}
 use Rattle.protocol.proofs.Fault.{nothing_wrong, nothing_told}
-use Rattle.job.specs.Refusals.{on_line, refusal, found, first, lent, lent_after}
-use Rattle.job.specs.declared.Outcome.{Outcome}
-use Rattle.job.specs.declared.Outcome.TheVariants.{Made, Refused}
+use Rattle.job.specs.Refusals.{on_line, refusal, number, found, first, lent, lent_after}
+use Rattle.std.specs.Prelude.{Result, Ok, Err}
+use Rattle.job.specs.declared.Reason.{Reason}
+use Rattle.job.specs.declared.Refusal.{Refusal}
 use Rattle.job.specs.declared.Detail.TheVariants.{OnLine}
 use Rattle.job.proofs.Bits.{all_bits}
 use Rattle.job.proofs.Refusals.{no, none_before, result_first, was_made, was_refused, ended_none}
@@ -30,7 +31,7 @@ pub record Rows (text : List ℕ) (n : ℕ) (cdm cds : List ℕ) : Type 0 where
   pub cdm_there : take n cdm ≡ cdm_of text
   pub cds_there : take n cds ≡ cds_of text
 
-pub rows_taken : {text a b a' b' : List ℕ} {n : ℕ} → RowsTaken text a b (Made n) a' b' → Rows text n a' b'
+pub rows_taken : {text a b a' b' : List ℕ} {n : ℕ} → RowsTaken text a b (Ok n) a' b' → Rows text n a' b'
 unfolding text_refusals
 rows_taken {text} {a} {b} {a'} {b'} {n} rows =
     let done = was_made rows.ends in
@@ -44,14 +45,15 @@ rows_taken {text} {a} {b} {a'} {b'} {n} rows =
     }
 
 -- A refusal with a line is what is told of the text: 5 and 9 have none.
-pub was_told : {text a b a' b' : List ℕ} {number line byte : ℕ} → RowsTaken text a b (Refused number (OnLine line byte)) a' b'
-    → text_fault text ≡ some (record { number = number; line = line; byte = byte })
+pub was_told : {text a b a' b' : List ℕ} {reason : Reason} {line byte : ℕ}
+    → RowsTaken text a b (Err (record { reason = reason; beside = OnLine line byte })) a' b'
+    → text_fault text ≡ some (record { number = number reason; line = line; byte = byte })
 unfolding text_refusals text_room first or_else
-was_told {text} {a} {b} {number} {line} {byte} taken = from (text_fault text) (was_refused taken.ends)
+was_told {text} {a} {b} {reason} {line} {byte} taken = from (text_fault text) (was_refused taken.ends)
   where
     from : (f : Option Fault)
-        → first (found 13 (bad_form f) ∷ text_room (length (cdm_of text)) (length a) (length b)) ≡ some (refusal number (on_line line byte))
-        → f ≡ some (record { number = number; line = line; byte = byte })
+        → first (found 13 (bad_form f) ∷ text_room (length (cdm_of text)) (length a) (length b)) ≡ some (refusal (number reason) (on_line line byte))
+        → f ≡ some (record { number = number reason; line = line; byte = byte })
     from none e =
         let columns = length (cdm_of text) in
         tested (ltb column_limit columns) (λ over. let five = rw over at e in cc)
@@ -64,7 +66,7 @@ was_told {text} {a} {b} {number} {line} {byte} taken = from (text_fault text) (w
         cc
 
 -- Rows that were printed: their text gives them back, and with room for them it is not refused.
-module _ (cdm cds : List ℕ) {out text : List ℕ} {n : ℕ} (printed : RowsPrinted cdm cds out (Made n) text) where
+module _ (cdm cds : List ℕ) {out text : List ℕ} {n : ℕ} (printed : RowsPrinted cdm cds out (Ok n) text) where
   printed_right : Right cdm cds
   unfolding rows_refusals
   printed_right = right_rows cdm cds (none_before _ _ (was_printed printed).0)
@@ -75,8 +77,8 @@ module _ (cdm cds : List ℕ) {out text : List ℕ} {n : ℕ} (printed : RowsPri
       rw (was_printed printed).2
       (there_and_back cdm cds right.same (all_bits cdm right.cdm_bits) (all_bits cds right.cds_bits))
 
-  pub printed_taken : {a b a' b' : List ℕ} {outcome : Outcome} → RowsTaken (take n text) a b outcome a' b'
-      → length cdm ≤ length a → length cdm ≤ length b → outcome ≡ Made (length cdm)
+  pub printed_taken : {a b a' b' : List ℕ} {outcome : Result ℕ Refusal} → RowsTaken (take n text) a b outcome a' b'
+      → length cdm ≤ length a → length cdm ≤ length b → outcome ≡ Ok (length cdm)
   unfolding text_refusals first or_else
   printed_taken {a} {b} rows room room' =
       let back = printed_back in

@@ -1,6 +1,6 @@
 -- What the demands say of lent buffers: that they hold bytes, a list in one and its entries, the kinds that no chain makes, and those that
 -- no chain makes that does not wait; and registers that differ only where nothing may be read, with the same numbers in the bank registers.
-use Rattle.std.specs.Prelude.{◌≡◌, Bool, true, false, ◌||◌, List, [], ◌∷◌, ℕ, ◌-◌, ◌*◌, ◌≤◌, eqb, length, take, drop, get_or}
+use Rattle.std.specs.Prelude.{◌≡◌, Bool, true, false, ◌||◌, List, [], ◌∷◌, ℕ, ◌-◌, ◌*◌, ◌≤◌, eqb, length, take, drop, get_or, Result, Ok}
 use Rattle.std.proofs.Math.Option.{Option}
 use Rattle.std.proofs.Math.ListN.{get_elem?}
 use Rattle.protocol.specs.Limits.{bank_size}
@@ -12,8 +12,7 @@ use Rattle.protocol.specs.Replay.{executions}
 use Rattle.protocol.specs.Layout.{Field, current, entry_bytes, field_at, entries_in}
 use Rattle.protocol.specs.Late.{Agrees}
 use Rattle.job.specs.Bytes.{none_above}
-use Rattle.job.specs.declared.Outcome.{Outcome}
-use Rattle.job.specs.declared.Outcome.TheVariants.{Made}
+use Rattle.job.specs.declared.Refusal.{Refusal}
 use Rattle.run.specs.Run.{size_of}
 
 -- A lent buffer holds bytes, as every slice of `u8` does.
@@ -46,10 +45,10 @@ executions_in slaves list = joined (executions slaves 0 (bare (entries_in curren
 
 -- Request 02, "Open at the frame", of a list of n entries and one opened at the frame of its entry i: it was made, it agrees from some entry
 -- on, and entry i is in it, but for the bank.
-pub record Reopened (n i : ℕ) (list : List ℕ) (outcome : Outcome) (after : List ℕ) : Type 0 where
+pub record Reopened (n i : ℕ) (list : List ℕ) (outcome : Result ℕ Refusal) (after : List ℕ) : Type 0 where
   pub skipped : ℕ
   pub not_it : skipped ≤ i
-  pub made : outcome ≡ Made (n - skipped)
+  pub made : outcome ≡ Ok (n - skipped)
   pub the_same : Agrees (entries_in current (list_in (n - skipped) after)) (drop skipped (entries_in current list))
   pub in_it : bare_at (list_in (n - skipped) after) (i - skipped) ≡ bare_at list i
 

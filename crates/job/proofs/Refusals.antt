@@ -1,19 +1,21 @@
 -- What holds of every list of rules, and of every job that ends by one, whatever its numbers are: when a number is given, what is known
 -- where none is, rules behind others, the ends of a job, and that it has one result. Assumes nothing.
 use mathlib.Core.Path.{◌≡◌, refl, sym, ap, ◌∙◌}
-use mathlib.Core.Bool.{Bool, true, false, cond, ◌||◌, true≢false}
+use mathlib.Core.Bool.{Bool, true, false, cond}
 use mathlib.Core.List.{List, [], ◌∷◌, ◌++◌, map, append-nil}
 use mathlib.Core.Logic.{◌↔◌}
 use mathlib.Core.Option.{Option, none, some, or_else, none-ne-some}
-use Prim.Native.Nat.{ℕ, zero, suc, ◌≤◌}
+use Rattle.std.specs.Prelude.{Result, Ok, Err}
+use Prim.Native.Nat.{ℕ, ◌≤◌}
 use native.Mathlib.Omega.{arith}
 use lib.Dec.{eqb}
 use lib.ListN.{length, take, drop, length-append, drop_of_length-le}
 use lib.Seq.{sets, take-append_seam}
 use Rattle.laws.proofs.Unique.{one_result}
-use Rattle.job.specs.Refusals.{alone, Refusal, refusal, Rule, when, found, first, given, made, refused, ending, detail, told, Lent, lent, lent_after, Ended}
-use Rattle.job.specs.declared.Outcome.{Outcome}
-use Rattle.job.specs.declared.Outcome.TheVariants.{Made, Refused}
+use Rattle.job.specs.Refusals.{alone, Refusal, refusal, Rule, when, found, first, number, given, made, refused, ending, detail, refusal_of, told, Lent, lent, lent_after, Ended}
+use Rattle.job.specs.declared.Reason.{Reason}
+use Rattle.job.specs.declared.Reason.TheVariants as Reasons
+use Rattle.job.specs.declared.Refusal as Returned
 use Rattle.job.specs.declared.Detail as Code
 use Rattle.job.specs.declared.Detail.TheVariants.{Alone, OnLine, OfJob}
 use Rattle.job.proofs.Laid.{sets_first}
@@ -105,10 +107,6 @@ fails n (found label f ∷ rules) c = either (eqb n label) c.0 (fails n rules c.
 pub no : (n : ℕ) (rules : List Rule) → first rules ≡ none → Fails n rules
 no n rules e = fails n rules (clear rules e)
 
-pub no_either : (a b : Bool) → a || b ≡ false → (a ≡ false) × (b ≡ false)
-no_either true b e = absurd (true≢false e)
-no_either false b e = (refl, e)
-
 -- Rules behind others are tried where those give nothing.
 pub first_append : (rules more : List Rule) → first (rules ++ more) ≡ or_else (first rules) (first more)
 unfolding first or_else
@@ -118,29 +116,20 @@ first_append (when false n ∷ rules) more = first_append rules more
 first_append (found label none ∷ rules) more = first_append rules more
 first_append (found label (some r) ∷ rules) more = refl
 
--- A number that the code hands on counts before any other; 0 says that none was given; and no two say the same, so that a promise of one
--- has one result.
-pub counts : (why : ℕ) (other : Option Refusal) → (why ≡ 0 → ⊥) → given why ≡ or_else (given why) other
+-- A reason that the code hands on counts before any other.
+pub counts : {A : Type 0} (r : Result A Reason) (other : Option Refusal) → (given r ≡ none → ⊥) → given r ≡ or_else (given r) other
 unfolding or_else
-counts zero other h = absurd (h refl)
-counts (suc n) other h = refl
-
-pub gave_none : {f : Option Refusal} (why : ℕ) → given why ≡ f → why ≡ 0 → f ≡ none
-gave_none why e z = sym e ∙ ap given z
-
-given_unique : (a b : ℕ) → given a ≡ given b → a ≡ b
-given_unique zero zero e = refl
-given_unique zero (suc m) e = cc
-given_unique (suc n) zero e = cc
-given_unique (suc n) (suc m) e = cc
+counts (Ok a) other h = absurd (h refl)
+counts (Err reason) other h = refl
 
 module _ (rules more : List Rule) where
   pub keeps : (r : Refusal) → first rules ≡ some r → first (rules ++ more) ≡ some r
   unfolding or_else
   keeps r e = first_append rules more ∙ rw e
 
-  pub stays : (why : ℕ) → given why ≡ first rules → (why ≡ 0 → ⊥) → given why ≡ first (rules ++ more)
-  stays why e h = counts why (first more) h ∙ rw e (sym (first_append rules more))
+  pub stays : (reason : Reason) → some (refusal (number reason) alone) ≡ first rules
+      → some (refusal (number reason) alone) ≡ first (rules ++ more)
+  stays reason e = sym (keeps _ (sym e))
 
   pub passes : first rules ≡ none → first (rules ++ more) ≡ first more
   unfolding or_else
@@ -166,11 +155,75 @@ one_detail (OfJob i) Alone e = cc
 one_detail (OfJob i) (OnLine l b) e = cc
 one_detail (OfJob i) (OfJob j) e = cc
 
-one_told : (a b : Outcome) → told a ≡ told b → a ≡ b
-one_told (Made n) (Made m) e = cc
-one_told (Made n) (Refused k d) e = cc
-one_told (Refused k d) (Made n) e = cc
-one_told (Refused k c) (Refused m d) e = let beside : c ≡ d = one_detail c d (cc) in cc
+-- All reasons, and the one of a number: no two share it.
+reasons : List Reason
+reasons =
+    Reasons.TooManySlaves
+    ∷ Reasons.WrongRegisters
+    ∷ Reasons.WrongRights
+    ∷ Reasons.RightTooHigh
+    ∷ Reasons.TooManyColumns
+    ∷ Reasons.RowsDiffer
+    ∷ Reasons.NotABit
+    ∷ Reasons.OpeningBehind
+    ∷ Reasons.NoRoom
+    ∷ Reasons.OutOfRange
+    ∷ Reasons.NotAList
+    ∷ Reasons.WrongHeader
+    ∷ Reasons.WrongDigit
+    ∷ Reasons.NoTab
+    ∷ Reasons.NoFeed
+    ∷ Reasons.TextCut
+    ∷ Reasons.WrongWaits
+    ∷ Reasons.WrongBanks
+    ∷ Reasons.OutsideRows
+    ∷ Reasons.WrongCounts
+    ∷ Reasons.WrongTally
+    ∷ []
+
+numbered : List Reason → (n : ℕ) → Option Reason
+numbered [] n = none
+numbered (r ∷ rs) n = cond (eqb (number r) n) (some r) (numbered rs n)
+
+own_number : (a : Reason) → numbered reasons (number a) ≡ some a
+unfolding reasons numbered
+own_number Reasons.TooManySlaves = refl
+own_number Reasons.WrongRegisters = refl
+own_number Reasons.WrongRights = refl
+own_number Reasons.RightTooHigh = refl
+own_number Reasons.TooManyColumns = refl
+own_number Reasons.RowsDiffer = refl
+own_number Reasons.NotABit = refl
+own_number Reasons.OpeningBehind = refl
+own_number Reasons.NoRoom = refl
+own_number Reasons.OutOfRange = refl
+own_number Reasons.NotAList = refl
+own_number Reasons.WrongHeader = refl
+own_number Reasons.WrongDigit = refl
+own_number Reasons.NoTab = refl
+own_number Reasons.NoFeed = refl
+own_number Reasons.TextCut = refl
+own_number Reasons.WrongWaits = refl
+own_number Reasons.WrongBanks = refl
+own_number Reasons.OutsideRows = refl
+own_number Reasons.WrongCounts = refl
+own_number Reasons.WrongTally = refl
+
+pub one_reason : (a b : Reason) → number a ≡ number b → a ≡ b
+one_reason a b e = let same : some a ≡ some b = sym (own_number a) ∙ ap (numbered reasons) e ∙ own_number b in cc
+
+pub one_refusal : (r q : Returned.Refusal) → refusal_of r ≡ refusal_of q → r ≡ q
+one_refusal r q e =
+    let reason : r.reason ≡ q.reason = one_reason r.reason q.reason (cc) in
+    let beside : r.beside ≡ q.beside = one_detail r.beside q.beside (cc) in
+    let all : ◌≡◌ {A = Returned.Refusal} (record { reason = r.reason; beside = r.beside }) (record { reason = q.reason; beside = q.beside }) = cc in
+    all
+
+one_told : (a b : Result ℕ Returned.Refusal) → told a ≡ told b → a ≡ b
+one_told (Ok n) (Ok m) e = cc
+one_told (Ok n) (Err r) e = cc
+one_told (Err r) (Ok n) e = cc
+one_told (Err r) (Err q) e = ap (λ (x : Returned.Refusal). Err x) (one_refusal r q (cc))
 
 -- A buffer as it was lent.
 abbrev pub unchanged : Lent → List ℕ
@@ -203,22 +256,18 @@ module _ (result before : List ℕ) where
 
 -- The ends of a job: refused, with every lent byte as it was ..
 module _ (rules : List Rule) (count : ℕ) (buffers : List Lent) where
-  pub ended_refused : (outcome : Outcome) (r : Refusal) → told outcome ≡ refused r → first rules ≡ some r
-      → Ended rules count buffers outcome (map unchanged buffers)
-  ended_refused outcome r e g = record { tells = e ∙ rw g; leaves = rw g (all_unchanged r buffers) }
-
-  pub ended_given : (why : ℕ) → given why ≡ first rules → (why ≡ 0 → ⊥) → Ended rules count buffers (Refused why Alone) (map unchanged buffers)
-  ended_given zero e h = absurd (h refl)
-  ended_given (suc n) e h = ended_refused (Refused (suc n) Alone) (refusal (suc n) alone) refl (sym e)
+  pub ended_refused : (r : Returned.Refusal) → first rules ≡ some (refusal_of r)
+      → Ended rules count buffers (Err r) (map unchanged buffers)
+  ended_refused r g = record { tells = rw g; leaves = rw g (all_unchanged (refusal_of r) buffers) }
 
   -- .. or made.
   pub ended_made : (n : ℕ) (after : List (List ℕ)) → first rules ≡ none → n ≡ count → after ≡ map (lent_after none) buffers
-      → Ended rules count buffers (Made n) after
+      → Ended rules count buffers (Ok n) after
   ended_made n after g e l = record { tells = rw (g, e); leaves = rw g l }
 
 -- And back, from what a job returned to its rules.
 module _ {rules : List Rule} {count : ℕ} {buffers : List Lent} {after : List (List ℕ)} where
-  pub was_made : {n : ℕ} → Ended rules count buffers (Made n) after
+  pub was_made : {n : ℕ} → Ended rules count buffers (Ok n) after
       → (first rules ≡ none) × (n ≡ count) × (after ≡ map (lent_after none) buffers)
   was_made {n} ended = from (first rules) ended.tells ended.leaves
     where
@@ -227,23 +276,22 @@ module _ {rules : List Rule} {count : ℕ} {buffers : List Lent} {after : List (
       from none e l = (refl, cc, l)
       from (some r) e l = absurd (let z : ◌≡◌ {A = ℕ} 0 1 = cc in omega arith)
 
-  pub was_refused : {number : ℕ} {beside : Code.Detail} → Ended rules count buffers (Refused number beside) after
-      → first rules ≡ some (refusal number (detail beside))
-  was_refused {number} {beside} ended = from (first rules) ended.tells
+  pub was_refused : {r : Returned.Refusal} → Ended rules count buffers (Err r) after → first rules ≡ some (refusal_of r)
+  was_refused {r} ended = from (first rules) ended.tells
     where
-      from : (f : Option Refusal) → refused (refusal number (detail beside)) ≡ ending f count → f ≡ some (refusal number (detail beside))
+      from : (f : Option Refusal) → refused (refusal_of r) ≡ ending f count → f ≡ some (refusal_of r)
       from none e = absurd (let z : ◌≡◌ {A = ℕ} 0 1 = cc in omega arith)
-      from (some r) e = cc
+      from (some q) e = cc
 
-  pub ended_none : {outcome : Outcome} → Ended rules count buffers outcome after → first rules ≡ none → outcome ≡ Made count
-  ended_none {outcome} ended e = one_told outcome (Made count) (ended.tells ∙ rw e)
+  pub ended_none : {outcome : Result ℕ Returned.Refusal} → Ended rules count buffers outcome after → first rules ≡ none → outcome ≡ Ok count
+  ended_none {outcome} ended e = one_told outcome (Ok count) (ended.tells ∙ rw e)
 
   -- A job ends alike by rules that give the same.
-  pub same_rules : {others : List Rule} {outcome : Outcome} → Ended rules count buffers outcome after → first rules ≡ first others
+  pub same_rules : {others : List Rule} {outcome : Result ℕ Returned.Refusal} → Ended rules count buffers outcome after → first rules ≡ first others
       → Ended others count buffers outcome after
   same_rules ended e = record { tells = rw (← e) ended.tells; leaves = rw (← e) ended.leaves }
 
   -- A job's promise has one result: two results that meet it are equal, in what is returned and in every lent byte.
-  pub ended_unique : {a b : Outcome} {other : List (List ℕ)} → Ended rules count buffers a after → Ended rules count buffers b other
+  pub ended_unique : {a b : Result ℕ Returned.Refusal} {other : List (List ℕ)} → Ended rules count buffers a after → Ended rules count buffers b other
       → (a ≡ b) × (after ≡ other)
   ended_unique {a} {b} p q = (one_told a b (one_result p.tells q.tells), one_result p.leaves q.leaves)

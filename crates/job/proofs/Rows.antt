@@ -1,19 +1,20 @@
 -- Refusals 5 to 7: the lengths decide before the bytes, and what rows are where none of the three is given. Assumes nothing.
-use mathlib.Core.Path.{◌≡◌, refl}
+use mathlib.Core.Path.{◌≡◌, refl, ap, ◌∙◌}
 use mathlib.Core.Bool.{Bool, true, false, not, ◌&&◌, ◌||◌}
 use mathlib.Core.List.{List, [], ◌∷◌}
-use mathlib.Core.Option.{none, or_else}
+use mathlib.Core.Option.{none, some, or_else}
 use Prim.Native.Nat.{ℕ, ◌≤◌}
 use native.Mathlib.Omega.{arith}
 use borrow.Author.Tests.{le-ltb, ltb-false, eq-eqb, eqb-true, not-false}
 use lib.Dec.{ltb, eqb}
 use lib.ListN.{length}
+use Rattle.std.proofs.lemmas.Bool.{or_parts}
 use Rattle.protocol.specs.Limits.{column_limit}
 use Rattle.laws.proofs.Every.{both}
 use Rattle.job.specs.Bytes.{are_bits}
-use Rattle.job.specs.Refusals.{Rule, when, first}
+use Rattle.job.specs.Refusals.{Refusal, Rule, when, first}
 use Rattle.job.specs.Rows.{row_rules, wrong_rows}
-use Rattle.job.proofs.Refusals.{no, no_either}
+use Rattle.job.proofs.Refusals.{no}
 
 -- The three by their conditions.
 abbrev three : (long unequal bits : Bool) → List Rule
@@ -27,11 +28,23 @@ judges false false false more = refl
 judges false false true more = refl
 
 -- Bytes that are judged beside others: a number that is given stays, else they decide.
-pub judged_too : (columns others : ℕ) (bits more : Bool)
+judged_too : (columns others : ℕ) (bits more : Bool)
     → or_else (first (row_rules columns others bits)) (first (when (not more) 7 ∷ [])) ≡ first (row_rules columns others (bits && more))
 unfolding row_rules
 judged_too columns others bits more =
     judges (ltb column_limit columns || ltb column_limit others) (not (eqb columns others)) bits more
+
+module _ (columns others : ℕ) (bits more : Bool) where
+  -- So what is given before those bytes are judged stays ..
+  pub decided_before : (r : Refusal) → some r ≡ first (row_rules columns others bits) → some r ≡ first (row_rules columns others (bits && more))
+  unfolding or_else
+  decided_before r e = ap (λ f. or_else f (first (when (not more) 7 ∷ []))) e ∙ judged_too columns others bits more
+
+  -- .. and where nothing is, they decide.
+  pub decided_by_bytes : none ≡ first (row_rules columns others bits)
+      → first (when (not more) 7 ∷ []) ≡ first (row_rules columns others (bits && more))
+  unfolding or_else
+  decided_by_bytes e = ap (λ f. or_else f (first (when (not more) 7 ∷ []))) e ∙ judged_too columns others bits more
 
 -- Two rows that are refused by none of the three.
 pub record Right (cdm cds : List ℕ) : Type 0 where
@@ -46,7 +59,7 @@ module _ (cdm cds : List ℕ) where
   right_rows e =
       let bits = both (are_bits cdm) (are_bits cds) (not-false _ (no 7 _ e)) in
       record {
-        short = ltb-false _ _ (no_either _ _ (no 5 _ e)).0;
+        short = ltb-false _ _ (or_parts _ _ (no 5 _ e)).0;
         same = eqb-true _ _ (not-false _ (no 6 _ e));
         cdm_bits = bits.0;
         cds_bits = bits.1;

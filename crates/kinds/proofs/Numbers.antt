@@ -3,6 +3,10 @@ use mathlib.Core.Path.{◌≡◌, refl, sym, ap, ◌∙◌}
 use mathlib.Core.Bool.{Bool, true, false, ◌&&◌, false≢true}
 use mathlib.Core.List.{List, [], ◌∷◌}
 use mathlib.Core.Option.{none}
+use Rattle.std.specs.Prelude.{Result, Ok, Err}
+use Rattle.std.specs.Result.{is_ok}
+use Rattle.kinds.specs.declared.Kind as Code
+use Rattle.kinds.specs.declared.NotAKind.{NotAKind}
 use Prim.Native.Nat.{ℕ, zero, suc, ◌≤◌, ◌<◌}
 use native.Mathlib.Omega.{arith}
 use borrow.Author.Tests.{leb-true, leb-false, ne_eqb}
@@ -11,7 +15,7 @@ use Rattle.protocol.specs.Entries.{Kind, forced, number, kinds, numbered}
 use Rattle.protocol.proofs.Codec.{numbered_own}
 use Rattle.laws.proofs.Every.{tested, both}
 use Rattle.laws.proofs.Table.{below}
-use Rattle.kinds.specs.Kinds.{is_one, is_kind}
+use Rattle.kinds.specs.Kinds.{is_one, is_kind, kind_or, kind_of, kind_by, Numbers}
 
 -- The last kind's number.
 abbrev pub last : ℕ
@@ -46,12 +50,21 @@ pub own_kind : (k : Kind) → is_kind (number k) ≡ true
 unfolding is_kind
 own_kind k = ap is_one (numbered_own k)
 
-pub up_to_last_lem : (n : ℕ) → (n ≡ 0 → ⊥) → leb n last ≡ is_kind n
-up_to_last_lem zero h = absurd (h refl)
-up_to_last_lem (suc n) h =
-    tested (leb (suc n) last) (λ q. rw (q, is_kinds n (omega (arith, leb-true))))
-    (λ q. rw (q, past_kinds (suc n) (leb-false (suc n) last q)))
+-- Nor is a number a kind's that is none of those up to the last one.
+pub no_other : (n : ℕ) → (1 ≤ n → n ≤ last → ⊥) → is_kind n ≡ false
+no_other zero h = no_kind
+no_other (suc n) h =
+    tested (leb (suc n) last) (λ q. absurd (h (omega arith) (leb-true (suc n) last q))) (λ q. past_kinds (suc n) (leb-false (suc n) last q))
+
+-- So asking for the kind of a number says whether it is one, and each number is that of the kind found.
+pub decided : (n : ℕ) (r : Result Code.Kind NotAKind) → Numbers n r → is_ok r ≡ is_kind n
+decided n (Ok k) e = rw (← e) (sym (own_kind (kind_by k)))
+decided n (Err other) e = sym e
 
 pub kind_low : (n : ℕ) → is_kind n ≡ true → n ≤ last
 kind_low n e =
     tested (leb n last) (λ q. leb-true n last q) (λ q. absurd (false≢true (sym (past_kinds n (leb-false n last q)) ∙ e)))
+
+-- The kind of a kind's own number.
+pub kind_own : (k : Kind) → kind_of (number k) ≡ k
+kind_own k = ap kind_or (numbered_own k)

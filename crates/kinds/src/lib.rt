@@ -1,58 +1,81 @@
-// The kinds of entries (01, Entries; Request 07), by the numbers of the table; 0 is none. They stand here and nowhere else in the code.
+// The kinds of entries (01, Entries; Request 07), each by its number in the table. The numbers stand here and nowhere else in the code.
 #![tactic(auto)]
 
 ghost use Rattle.std.specs.Prelude.{◌≡◌};
-ghost use Rattle.kinds.specs.Kinds.{is_kind};
+ghost use Rattle.protocol.specs.Entries.{number};
+ghost use Rattle.kinds.specs.Kinds.{is_kind, kind_by, Numbers};
 
-pub const NONE: u64 = 0;
+#[derive(Clone, Copy, PartialEq, Eq)]
+pub enum Kind {
+    Lock = 1,
+    Lockodd = 2,
+    Badhead = 3,
+    Command = 4,
+    Pair = 5,
+    Absent = 6,
+    Refused = 7,
+    Odd = 8,
+    Mute = 9,
+    Read = 10,
+    Written = 11,
+    Readbad = 12,
+    Writebad = 13,
+    Echo = 14,
+    End = 15,
+    Closed = 16,
+    Executed = 17,
+    Withheld = 18,
+    Ackodd = 19,
+    Forced = 20,
+}
 
-pub const LOCK: u64 = 1;
+// A number that is no kind's.
+#[derive(Clone, Copy, PartialEq, Eq)]
+pub struct NotAKind;
 
-pub const LOCKODD: u64 = 2;
+impl Kind {
+    pub fn number(self) -> u8
+        ensures { result ≡ number (kind_by self) }
+    {
+        self as u8
+    }
+}
 
-pub const BADHEAD: u64 = 3;
+impl TryFrom<u8> for Kind {
+    type Error = NotAKind;
 
-pub const COMMAND: u64 = 4;
+    ghost try_from_gives = { Numbers };
 
-pub const PAIR: u64 = 5;
-
-pub const ABSENT: u64 = 6;
-
-pub const REFUSED: u64 = 7;
-
-pub const ODD: u64 = 8;
-
-pub const MUTE: u64 = 9;
-
-pub const READ: u64 = 10;
-
-pub const WRITTEN: u64 = 11;
-
-pub const READBAD: u64 = 12;
-
-pub const WRITEBAD: u64 = 13;
-
-pub const ECHO: u64 = 14;
-
-pub const END: u64 = 15;
-
-pub const CLOSED: u64 = 16;
-
-pub const EXECUTED: u64 = 17;
-
-pub const WITHHELD: u64 = 18;
-
-pub const ACKODD: u64 = 19;
-
-pub const FORCED: u64 = 20;
+    fn try_from(number: u8) -> Result<Kind, NotAKind> {
+        match number {
+            1 => Ok(Kind::Lock),
+            2 => Ok(Kind::Lockodd),
+            3 => Ok(Kind::Badhead),
+            4 => Ok(Kind::Command),
+            5 => Ok(Kind::Pair),
+            6 => Ok(Kind::Absent),
+            7 => Ok(Kind::Refused),
+            8 => Ok(Kind::Odd),
+            9 => Ok(Kind::Mute),
+            10 => Ok(Kind::Read),
+            11 => Ok(Kind::Written),
+            12 => Ok(Kind::Readbad),
+            13 => Ok(Kind::Writebad),
+            14 => Ok(Kind::Echo),
+            15 => Ok(Kind::End),
+            16 => Ok(Kind::Closed),
+            17 => Ok(Kind::Executed),
+            18 => Ok(Kind::Withheld),
+            19 => Ok(Kind::Ackodd),
+            20 => Ok(Kind::Forced),
+            _ => Err(NotAKind),
+        }
+    }
+}
 
 // Whether a number is a kind's.
-pub fn is_kind(kind: u8) -> bool
-    ensures { result ≡ is_kind kind }
+pub fn is_kind(number: u8) -> bool
+    ensures { result ≡ is_kind number }
 {
-    if kind as u64 == NONE {
-        false
-    } else {
-        kind as u64 <= FORCED
-    }
+    Kind::try_from(number).is_ok()
 }

@@ -1,128 +1,110 @@
 // A list to text (01, Text): the header, "then one entry a line, decimal, the kind by name, `-` for a field the kind doesn't name". It
-// returns Made with the number of bytes, or Refused with 12 or 9 and the lent buffer as it was.
+// returns the number of bytes, or refuses with 12 or 9 and leaves the lent buffer as it was.
 #![tactic(auto)]
 
-ghost use Rattle.std.specs.Prelude.{◌≡◌, true, ◌+◌, ◌≤◌, ltb, length};
-ghost use Rattle.protocol.specs.Layout.{current, entries_in, is_list};
-ghost use Rattle.protocol.specs.Text.{field, entry_line, entry_lines};
-ghost use Rattle.kinds.specs.Kinds.{is_kind};
-ghost use Rattle.lists.specs.Fields.{entry_of};
+ghost use Rattle.std.specs.Prelude.{◌≡◌, ◌+◌, ◌-◌, ◌≤◌, map, length, SomeIff};
+ghost use Rattle.protocol.specs.Layout.{numbers};
+ghost use Rattle.protocol.specs.Text.{entry_line, entry_lines, list_text};
+ghost use Rattle.lists.specs.Entries.{entries_left, entry_of};
 ghost use Rattle.print.specs.Laid.{Laid};
-ghost use Rattle.list_text.specs.Lists.{ListPrinted};
+ghost use Rattle.list_text.specs.Lists.{cell, number_in, ListPrinted};
 
-use job::{Detail, ENTRY_BYTES, Outcome};
-use lists::Fields;
+use job::{Reason, Refusal};
+use kinds::Kind;
+use lists::{Fields, List};
+use names::Field;
+
+// "header `event` TAB `column` ..": the line of names.
+const HEADER: &[u8] = b"event\tcolumn\tstart\tid\taddress\tbank\tvalue\n";
 
 // List to text: refusals 12, 9.
-pub fn list_to_text(list: &[u8], out: &mut [u8]) -> Outcome
+pub fn list_to_text(list: &[u8], out: &mut [u8]) -> Result<usize, Refusal>
     ensures { ListPrinted list.now out.old result out.new }
 {
-    let header: &[u8] = b"event\tcolumn\tstart\tid\taddress\tbank\tvalue\n";
-    if lists::is_list(list) {
-        if too_long(list, header.len(), out.len()) {
-            return Outcome::Refused(9, Detail::Alone);
-        }
-        let p = print::put_bytes(out, 0, header);
-        let n = put_lines(out, p, list);
-        Outcome::Made(n)
-    } else {
-        Outcome::Refused(12, Detail::Alone)
-    }
+    let list = List::try_from(list)?;
+    room_left(list, out.len()).ok_or(Reason::NoRoom)?;
+    let p = print::put_bytes(out, 0, HEADER);
+    Ok(put_lines(out, p, list))
 }
 
-// Whether a list's lines, behind so many bytes, need more room than this; the room is counted down, for no sum of lengths can wrap then.
-fn too_long(list: &[u8], before: usize, room: usize) -> bool
-    requires { is_list current list.now ≡ true }
-    ensures { result ≡ ltb room (before + length (entry_lines (entries_in current list.now))) }
+// The room that a list's text leaves, or none where it needs more. It is counted down, for no sum of lengths can wrap then.
+fn room_left(list: List, room: usize) -> Option<usize>
+    ensures { SomeIff result (length (list_text (entries_left list.entry)) ≤ room) (room - length (list_text (entries_left list.entry))) }
 {
-    if room < before {
-        return true;
+    let mut left = room.checked_sub(HEADER.len())?;
+    for e in list {
+        left = left.checked_sub(line_length(e))?;
     }
-    let mut left = room - before;
-    let mut i = 0;
-    while ENTRY_BYTES <= list.len() - i {
-        let n = line_length(lists::entry_at(list, i));
-        if left < n {
-            return true;
-        }
-        left -= n;
-        i += ENTRY_BYTES;
-    }
-    false
+    Some(left)
 }
 
-// "one entry a line"
-fn put_lines(out: &mut [u8], at: usize, list: &[u8]) -> usize
-    requires { (is_list current list.now ≡ true) × (at + length (entry_lines (entries_in current list.now)) ≤ length out.old) }
-    ensures { Laid (entry_lines (entries_in current list.now)) at out.old result out.new }
+// "one entry a line". This and what it calls take a buffer and a place and return the place behind, as the public calls of print do.
+fn put_lines(out: &mut [u8], at: usize, list: List) -> usize
+    requires { at + length (entry_lines (entries_left list)) ≤ length out.old }
+    ensures { Laid (entry_lines (entries_left list.entry)) at out.old result out.new }
 {
     let mut p = at;
-    let mut i = 0;
-    while ENTRY_BYTES <= list.len() - i {
-        p = put_line(out, p, lists::entry_at(list, i));
-        i += ENTRY_BYTES;
+    for e in list {
+        p = put_line(out, p, e);
     }
     p
 }
 
 // Lays an entry's line and returns the place behind it.
-fn put_line(out: &mut [u8], at: usize, e: Fields) -> usize
-    requires { (is_kind e.kind ≡ true) × (at + length (entry_line (entry_of e)) ≤ length out.old) }
+fn put_line(out: &mut [u8], at: usize, e: Fields<Kind>) -> usize
+    requires { at + length (entry_line (entry_of e)) ≤ length out.old }
     ensures { Laid (entry_line (entry_of e)) at out.old result out.new }
 {
-    let name = names::put_name(out, at, e.kind);
-    let column = put_field(out, name, true, e.column);
-    let start = put_field(out, column, true, e.start);
-    let id = put_field(out, start, names::has_field(e.kind, names::ID), e.id as u16);
-    let address = put_field(
-        out,
-        id,
-        names::has_field(e.kind, names::ADDRESS),
-        e.address as u16,
-    );
-    let bank = put_field(
-        out,
-        address,
-        names::has_bank(e.kind, e.address),
-        e.bank as u16,
-    );
-    let value = put_field(
-        out,
-        bank,
-        names::has_field(e.kind, names::VALUE),
-        e.value as u16,
-    );
-    out[value] = b'\n';
-    value + 1
+    let mut p = names::put_name(out, at, e.kind);
+    for number in numbers(e) {
+        p = put_field(out, p, number);
+    }
+    out[p] = b'\n';
+    p + 1
 }
 
 // How long an entry's line is.
-fn line_length(e: Fields) -> usize
-    requires { is_kind e.kind ≡ true }
+fn line_length(e: Fields<Kind>) -> usize
     ensures { result ≡ length (entry_line (entry_of e)) }
 {
-    let columns = field_length(true, e.column) + field_length(true, e.start);
-    let id = field_length(names::has_field(e.kind, names::ID), e.id as u16);
-    let address = field_length(names::has_field(e.kind, names::ADDRESS), e.address as u16);
-    let bank = field_length(names::has_bank(e.kind, e.address), e.bank as u16);
-    let value = field_length(names::has_field(e.kind, names::VALUE), e.value as u16);
-    names::name_length(e.kind) + columns + id + address + bank + value + 1
+    let mut n = names::name_length(e.kind);
+    for number in numbers(e) {
+        n += field_length(number);
+    }
+    n + 1
+}
+
+// The fields behind an entry's kind, in their order: each one's number, if the kind names it.
+fn numbers(e: Fields<Kind>) -> [Option<u16>; 6]
+    ensures { result ≡ map (number_in (entry_of e)) numbers }
+{
+    [
+        Some(e.column),
+        Some(e.start),
+        names::has_field(e.kind, Field::Id).then_some(u16::from(e.id)),
+        names::has_field(e.kind, Field::Address).then_some(u16::from(e.address)),
+        names::has_bank(e.kind, e.address).then_some(u16::from(e.bank)),
+        names::has_field(e.kind, Field::Value).then_some(u16::from(e.value)),
+    ]
 }
 
 // A TAB, and the field in decimal or `-`.
-fn put_field(out: &mut [u8], at: usize, named: bool, n: u16) -> usize
-    requires { at + length (field named n) ≤ length out.old }
-    ensures { Laid (field named n) at out.old result out.new }
+fn put_field(out: &mut [u8], at: usize, number: Option<u16>) -> usize
+    requires { at + length (cell number) ≤ length out.old }
+    ensures { Laid (cell number) at out.old result out.new }
 {
-    if named {
-        print::put_number(out, at, n as u64)
-    } else {
-        print::put_bytes(out, at, b"\t-")
+    match number {
+        Some(n) => print::put_number(out, at, u64::from(n)),
+        None => print::put_bytes(out, at, b"\t-"),
     }
 }
 
-fn field_length(named: bool, n: u16) -> usize
-    ensures { (result ≡ length (field named n)) × (result ≤ 6) }
+// The length of what put_field lays; two arms, like those: a trait of what lays and what counts would be longer than both.
+fn field_length(number: Option<u16>) -> usize
+    ensures { (result ≡ length (cell number)) × (result ≤ 6) }
 {
-    if named { 1 + print::digit_count(n) } else { 2 }
+    match number {
+        Some(n) => 1 + print::digit_count(n),
+        None => 2,
+    }
 }

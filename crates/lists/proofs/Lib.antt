@@ -1,2 +1,2 @@
--- What is proved of the walk over a list, beside the proofs of its functions.
+-- What is proved of a list's bytes, beside the proofs of its functions.
 pub mod Walk

@@ -9,8 +9,8 @@ use Rattle.laws.proofs.Unique.{one_result}
 use Rattle.machine.specs.Zeros.{zeros_after}
 use Rattle.machine.specs.Commands.{stops_at}
 
-counted_unique : (zeros : ℕ) (master : Bool) (a b : ℕ) → a ≡ zeros_after zeros master → b ≡ zeros_after zeros master → a ≡ b
-counted_unique zeros master a b p q = one_result p q
+counted_unique : (count : ℕ) (master : Bool) (a b : ℕ) → a ≡ zeros_after count master → b ≡ zeros_after count master → a ≡ b
+counted_unique count master a b p q = one_result p q
 
 selected_unique : (ids id : ℕ) (a b : Bool) → a ≡ (ltb id id_count && selects ids id) → b ≡ (ltb id id_count && selects ids id) → a ≡ b
 selected_unique ids id a b p q = one_result p q

@@ -57,30 +57,23 @@ pub const BROADCAST: u64 = 0;
 pub const COMMAND_S: u64 = 0;
 
 // The zeros in a row after one column more, fourteen at most.
+#[tactic(auto, unfolding(crate::specs::Zeros::zeros_after))]
 pub fn counted(zeros: u64, master: bool) -> u64
     ensures { result ≡ zeros_after zeros master }
 {
-    if master {
-        0
-    } else if zeros < REST - 1 {
-        zeros + 1
-    } else {
-        REST
-    }
+    if master { 0 } else { zeros.min(REST - 1) + 1 }
 }
 
 // Whether IDS selects an ID: its highest bit is ID 0's. A number that is no ID is never selected.
+#[tactic(auto, unfolding(protocol::specs::Commands::selects, protocol::specs::Bits::bit))]
 pub fn selected(ids: u64, id: u64) -> bool
     ensures { result ≡ (ltb id id_count && selects ids id) }
 {
-    if id < IDS {
-        (ids >> (IDS - 1 - id)) % 2 == 1
-    } else {
-        false
-    }
+    id < IDS && (ids >> (IDS - 1 - id)) % 2 == 1
 }
 
 // The column after a command's S that holds EX.
+#[tactic(auto, unfolding(protocol::specs::Commands::execute_column))]
 pub fn execute_column(ids: u64) -> u64
     ensures { (result ≡ execute_column ids) × (0 < result) × (result ≤ execute_addressed) }
 {
@@ -92,8 +85,9 @@ pub fn execute_column(ids: u64) -> u64
 }
 
 // A 0 at a command's S ends the frame; behind it the master's bits up to EX are not judged.
+#[tactic(auto, unfolding(crate::specs::Commands::stops_at))]
 pub fn stops(column: u64, master: bool) -> bool
     ensures { result ≡ stops_at column master }
 {
-    if master { false } else { column == COMMAND_S }
+    !master && column == COMMAND_S
 }

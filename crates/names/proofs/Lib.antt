@@ -1,2 +1,2 @@
 -- What is proved of the table, beside the proofs of its functions.
-pub mod Numbers
+pub mod Length

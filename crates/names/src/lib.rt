@@ -1,65 +1,107 @@
 // The table of kinds (01, Entries; Request 07): their names, and the fields that they name.
 #![tactic(auto)]
 
-ghost use Rattle.std.specs.Prelude.{◌≡◌, true, ◌+◌, ◌≤◌, ◌<◌, length};
-ghost use Rattle.kinds.specs.Kinds.{is_kind};
+ghost use Rattle.std.specs.Prelude.{◌≡◌, ◌+◌, ◌≤◌, length};
 ghost use Rattle.print.specs.Laid.{Laid};
 ghost use Rattle.names.specs.Names.{name_of, names, names_bank_of};
 
-// The room of a name and of a kind's fields in the tables below; both begin with the room of 0, which is no kind.
-const NAME_ROOM: usize = 8;
+use kinds::Kind;
 
-const FIELD_ROOM: usize = 4;
-
-// The fields that not every kind names, by their place in the table of fields.
-pub const ID: usize = 0;
-
-pub const ADDRESS: usize = 1;
-
-pub const VALUE: usize = 2;
+// The fields that not every kind names.
+#[derive(Clone, Copy)]
+pub enum Field {
+    Id,
+    Address,
+    Value,
+}
 
 // Registers 0 to 63 are those of a bank.
 const BANK: u8 = 64;
 
-// Whether a kind names one of them.
-pub fn has_field(kind: u8, field: usize) -> bool
-    requires { (is_kind kind ≡ true) × (field < 3) }
+// Whether a kind names a field.
+pub fn has_field(kind: Kind, field: Field) -> bool
     ensures { result ≡ names kind field }
 {
-    let fields: &[u8] =
-        b"000 001 000 000 101 110 110 111 111 110 111 111 111 111 111 000 110 101 101 101 101 ";
-    fields[FIELD_ROOM * kind as usize + field] == b'1'
-}
-
-// Whether an entry of a kind and an address names its bank (Request 05).
-pub fn has_bank(kind: u8, address: u8) -> bool
-    requires { is_kind kind ≡ true }
-    ensures { result ≡ names_bank_of kind address }
-{
-    if address < BANK {
-        has_field(kind, ADDRESS)
-    } else {
-        false
+    let row = table(kind);
+    match field {
+        Field::Id => row.has_id,
+        Field::Address => row.has_address,
+        Field::Value => row.has_value,
     }
 }
 
-// How long a kind's name is.
-pub fn name_length(kind: u8) -> usize
-    requires { is_kind kind ≡ true }
-    ensures { (result ≡ length (name_of kind)) × (result ≤ 8) }
+// Whether an entry of a kind and an address names its bank (Request 05).
+pub fn has_bank(kind: Kind, address: u8) -> bool
+    ensures { result ≡ names_bank_of kind address }
 {
-    let lengths: &[u8] = b"047774673447784368866";
-    (lengths[kind as usize] - b'0') as usize
+    address < BANK && has_field(kind, Field::Address)
 }
 
-// Lays a kind's name and returns the place behind it.
-pub fn put_name(out: &mut [u8], at: usize, kind: u8) -> usize
-    requires { (is_kind kind ≡ true) × (at + length (name_of kind) ≤ length out.old) }
+// How long a kind's name is.
+pub fn name_length(kind: Kind) -> usize
+    ensures { (result ≡ length (name_of kind)) × (result ≤ 8) }
+{
+    table(kind).name.len()
+}
+
+// Lays a kind's name at a place and returns the place behind it, as the public calls of print do.
+pub fn put_name(out: &mut [u8], at: usize, kind: Kind) -> usize
+    requires { at + length (name_of kind) ≤ length out.old }
     ensures { Laid (name_of kind) at out.old result out.new }
 {
-    let start = NAME_ROOM * kind as usize;
-    let end = start + name_length(kind);
-    let names: &[u8] =
-        b"        lock    lockodd badhead command pair    absent  refused odd     mute    read    written readbad writebadecho    end     closed  executedwithheldackodd  forced  ";
-    print::put_bytes(out, at, &names[start..end])
+    print::put_bytes(out, at, table(kind).name)
+}
+
+// What the table tells of a kind: its name, and whether id, address and value are among its fields.
+#[derive(Clone, Copy)]
+struct InTable {
+    name: &'static [u8],
+    has_id: bool,
+    has_address: bool,
+    has_value: bool,
+}
+
+// The table.
+fn table(kind: Kind) -> InTable
+    ensures name { result.name.now ≡ name_of kind }
+    ensures id { result.has_id ≡ names kind Field.Id }
+    ensures address { result.has_address ≡ names kind Field.Address }
+    ensures value { result.has_value ≡ names kind Field.Value }
+{
+    match kind {
+        Kind::Lock => tells(b"lock", false, false, true),
+        Kind::Lockodd => tells(b"lockodd", false, false, false),
+        Kind::Badhead => tells(b"badhead", false, false, false),
+        Kind::Command => tells(b"command", true, false, true),
+        Kind::Pair => tells(b"pair", true, true, false),
+        Kind::Absent => tells(b"absent", true, true, false),
+        Kind::Refused => tells(b"refused", true, true, true),
+        Kind::Odd => tells(b"odd", true, true, true),
+        Kind::Mute => tells(b"mute", true, true, false),
+        Kind::Read => tells(b"read", true, true, true),
+        Kind::Written => tells(b"written", true, true, true),
+        Kind::Readbad => tells(b"readbad", true, true, true),
+        Kind::Writebad => tells(b"writebad", true, true, true),
+        Kind::Echo => tells(b"echo", true, true, true),
+        Kind::End => tells(b"end", false, false, false),
+        Kind::Closed => tells(b"closed", true, true, false),
+        Kind::Executed => tells(b"executed", true, false, true),
+        Kind::Withheld => tells(b"withheld", true, false, true),
+        Kind::Ackodd => tells(b"ackodd", true, false, true),
+        Kind::Forced => tells(b"forced", true, false, true),
+    }
+}
+
+fn tells(name: &'static [u8], has_id: bool, has_address: bool, has_value: bool) -> InTable
+    ensures name { result.name.now ≡ name.now }
+    ensures id { result.has_id ≡ has_id }
+    ensures address { result.has_address ≡ has_address }
+    ensures value { result.has_value ≡ has_value }
+{
+    InTable {
+        name,
+        has_id,
+        has_address,
+        has_value,
+    }
 }

@@ -9,6 +9,8 @@ use borrow.Author.Tests.{lt-ltb, le-ltb, ltb-true, ltb-false}
 use lib.Dec.{ltb}
 use lib.ListN.{length, length-append}
 use Rattle.protocol.specs.Text.{digit, digits_in, decimal}
+use Rattle.std.specs.Prelude.{Option, None, Some, IfNone, IfSome}
+use Rattle.std.specs.Option.{unwrap_or}
 use Rattle.laws.proofs.Every.{tested}
 
 -- Fuel beyond the number changes nothing.
@@ -39,6 +41,12 @@ decimal_length (suc k) n h l =
     let ten : 10 ^ suc k ≡ 10 * 10 ^ k = pow-succ' 10 k in
     let hundred : 10 ^ suc (suc k) ≡ 10 * 10 ^ suc k = pow-succ' 10 (suc k) in
     rw (decimal_longer n (omega arith), decimal_length k (n / 10) (omega arith) (omega arith), add-one)
+
+-- The greatest power of ten in it, where there is one, and else 0, tells how many.
+pub length_by_power : (n : ℕ) (power : Option ℕ) → IfNone power (n ≡ 0) → IfSome power (λ k. 10 ^ k ≤ n)
+    → IfSome power (λ k. n < 10 * 10 ^ k) → unwrap_or power 0 + 1 ≡ length (decimal n)
+length_by_power n None zero_only least most = rw (decimal_one n (omega arith))
+length_by_power n (Some k) zero_only least most = rw (decimal_length k n least (rw pow-succ' most), add-one)
 
 -- A number below 10^(k + 1) has at most k + 1.
 pub decimal_short : (k n : ℕ) → n < 10 ^ suc k → length (decimal n) ≤ suc k

@@ -1,11 +1,12 @@
 -- Bytes laid one part after the other are all of them laid at once. Assumes nothing.
 use mathlib.Core.Path.{◌≡◌, refl, sym, ap, ◌∙◌}
-use mathlib.Core.List.{List, [], ◌∷◌, ◌++◌}
-use Prim.Native.Nat.{ℕ, ◌+◌, ◌≤◌, ◌<◌}
+use mathlib.Core.List.{List, [], ◌∷◌, ◌++◌, append_assoc}
+use Prim.Native.Nat.{ℕ, ◌+◌, ◌-◌, ◌≤◌}
 use native.Mathlib.Nat.{add_assoc}
-use native.Mathlib.Numerals.{add-one}
-use lib.ListN.{length, length-append, drop, drop_of_length-le, get_or, set}
-use lib.Seq.{sets, length-sets, drop-cons}
+use native.Mathlib.Omega.{arith}
+use borrow.Rule.Slice.PartMut.{put_mid}
+use lib.ListN.{length, length-append, set}
+use lib.Seq.{sets, sets-eq, length-sets, drop-drop}
 use Rattle.job.proofs.Laid.{sets_append}
 use Rattle.print.specs.Laid.{Laid}
 
@@ -33,10 +34,8 @@ one_byte l at v = record { behind = refl; laid = refl }
 pub laid_length : {vs l l' : List ℕ} {at r : ℕ} → Laid vs at l r l' → length l' ≡ length l
 laid_length {vs} {l} {l'} {at} {r} h = ap length h.laid ∙ length-sets l at vs
 
--- The bytes that are left, laid from p on: one more, or none.
-module _ (out bytes : List ℕ) (p j : ℕ) where
-  pub byte_laid : j < length bytes → sets (set out p (get_or bytes j 0)) (p + 1) (drop (j + 1) bytes) ≡ sets out p (drop j bytes)
-  byte_laid h = rw (drop-cons bytes j 0 h, add-one p, add-one j)
-
-  pub none_laid : length bytes ≤ j → sets out p (drop j bytes) ≡ out
-  none_laid h = rw (drop_of_length-le bytes h)
+-- All of them in the place of as many.
+pub all_laid : (vs l : List ℕ) (at : ℕ) → at + length vs ≤ length l → put_mid at (at + length vs - at) l vs ≡ sets l at vs
+all_laid vs l at h =
+    let count : at + length vs - at ≡ length vs = omega arith in
+    rw (count, drop-drop, ← append_assoc) (sym (sets-eq vs l at h))

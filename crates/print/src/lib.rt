@@ -1,4 +1,5 @@
 // Printing into a lent buffer: bytes, and numbers in decimal. Each function lays its bytes at a place and returns the place behind them.
+// They are no methods of a struct that holds both: each would have to say, beside what it lays, that the struct still lends that buffer.
 #![tactic(auto)]
 
 ghost use Rattle.std.specs.Prelude.{◌≡◌, ◌∷◌, ◌+◌, ◌≤◌, length};
@@ -10,17 +11,12 @@ pub fn put_bytes(out: &mut [u8], at: usize, bytes: &[u8]) -> usize
     requires { at + length bytes.now ≤ length out.old }
     ensures { Laid bytes.now at out.old result out.new }
 {
-    let mut p = at;
-    let mut j = 0;
-    while j < bytes.len() {
-        out[p] = bytes[j];
-        p += 1;
-        j += 1;
-    }
-    p
+    let end = at + bytes.len();
+    out[at..end].copy_from_slice(bytes);
+    end
 }
 
-// Text: "decimal".
+// Text: "decimal". It calls itself, as `decimal` does: the digits before the last, and then the last.
 fn put_decimal(out: &mut [u8], at: usize, n: u64) -> usize
     requires { at + length (decimal n) ≤ length out.old }
     ensures { Laid (decimal n) at out.old result out.new }
@@ -48,15 +44,5 @@ pub fn put_number(out: &mut [u8], at: usize, n: u64) -> usize
 pub fn digit_count(n: u16) -> usize
     ensures { (result ≡ length (decimal n)) × (result ≤ 5) }
 {
-    if n < 10 {
-        1
-    } else if n < 100 {
-        2
-    } else if n < 1000 {
-        3
-    } else if n < 10000 {
-        4
-    } else {
-        5
-    }
+    n.checked_ilog10().unwrap_or(0) as usize + 1
 }

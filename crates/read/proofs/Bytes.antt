@@ -31,10 +31,16 @@ Byte n = n < 256
 abbrev Bytes : Event → Type 0
 Bytes e = Byte e.id × Byte e.address × Byte e.value
 
+none_byte : Byte 0
+none_byte = omega arith
+
 event_bytes : (k : Kind) (id address value : ℕ) → Byte id → Byte address → Byte value → Bytes (event k id address value)
 event_bytes k id address value i a v =
-    let none : Byte 0 = omega arith in
-    (either Byte (table k).has_id i none, either Byte (table k).has_address a none, either Byte (table k).has_value v none)
+    (either Byte (table k).has_id i none_byte, either Byte (table k).has_address a none_byte, either Byte (table k).has_value v none_byte)
+
+-- Of no ID and no address.
+plain_bytes : (k : Kind) (value : ℕ) → Byte value → Bytes (event k 0 0 value)
+plain_bytes k value v = event_bytes k 0 0 value none_byte none_byte v
 
 -- What a reader holds: the lock counted so far, the header's ID and address or the next one, or a command's IDS and CMD.
 abbrev Counted : Locks → Type 0
@@ -73,9 +79,9 @@ held_seen_at column l x h c =
 
 good_locked : (column so_far : ℕ) (l : Locks) → Counted l → Good (locked column so_far l)
 unfolding locked
-good_locked column so_far ones h = (tt, event_bytes Kind.lock 0 0 9 (omega arith) (omega arith) (omega arith))
-good_locked column so_far (upto n) h = (tt, event_bytes Kind.lock 0 0 n (omega arith) (omega arith) h)
-good_locked column so_far mixed h = (tt, event_bytes Kind.lockodd 0 0 0 (omega arith) (omega arith) (omega arith))
+good_locked column so_far ones h = (tt, plain_bytes Kind.lock 9 (omega arith))
+good_locked column so_far (upto n) h = (tt, plain_bytes Kind.lock n h)
+good_locked column so_far mixed h = (tt, plain_bytes Kind.lockodd 0 none_byte)
 
 abbrev Said : Header → Type 0
 Said wrong = Unit {0}
@@ -95,14 +101,14 @@ said_header w =
 
 good_headed : (h : Header) (lock : ℕ) → Said h → Good (headed h lock)
 unfolding headed
-good_headed wrong lock h = (tt, event_bytes Kind.badhead 0 0 0 (omega arith) (omega arith) (omega arith))
+good_headed wrong lock h = (tt, plain_bytes Kind.badhead 0 none_byte)
 good_headed (access id address) lock h = (h, tt)
-good_headed (command ids cmd) lock h = (h, event_bytes Kind.command cmd 0 ids h.1 (omega arith) h.0)
+good_headed (command ids cmd) lock h = (h, event_bytes Kind.command cmd 0 ids h.1 none_byte h.0)
 
 -- The answers to a command, and EX.
 module _ (ids cmd : ℕ) (h : Byte ids × Byte cmd) where
   good_command : (k : Kind) (value : ℕ) → Byte value → Bytes (event k cmd 0 value)
-  good_command k value v = event_bytes k cmd 0 value h.1 (omega arith) v
+  good_command k value v = event_bytes k cmd 0 value h.1 none_byte v
 
   good_acknowledged : (column lock so_far : ℕ) (fitting x : Bool) → Good (acknowledged column ids cmd lock so_far fitting x)
   good_acknowledged column lock so_far fitting x =
@@ -122,11 +128,11 @@ module _ (id address : ℕ) (i : Byte id) (a : Byte address) where
   unfolding asked
   good_asked lock r answered_r w answered_w =
       let other : Good (odd_answer id address answered_r answered_w) = (tt, good_event Kind.odd _ (omega (arith, num_low answered_r, num_low answered_w))) in
-      either Good (beq r w) (tt, good_event Kind.pair 0 (omega arith))
+      either Good (beq r w) (tt, good_event Kind.pair 0 none_byte)
       (either Good (ltb id lock)
       (either Good (beq answered_r r)
       (either Good (beq answered_w w) ((i, a), tt) (tt, good_event Kind.refused _ (omega (arith, num_low w)))) other)
-      (either Good (answered_r || answered_w) other (tt, good_event Kind.absent 0 (omega arith))))
+      (either Good (answered_r || answered_w) other (tt, good_event Kind.absent 0 none_byte)))
 
 byte_of_lem : (w : ℕ) → Byte (byte_of w)
 unfolding byte_of
@@ -144,7 +150,7 @@ good_look (head column so_far lock) m x h =
 good_look (ask_r id address lock) m x h = (h, tt)
 good_look (ask_w id address lock r answered) m x h = good_asked id address h.0 h.1 lock r answered m x
 good_look (byte_s write id address nth unconfirmed) false x h =
-    either Good unconfirmed (tt, good_event id address h.0 h.1 Kind.mute 0 (omega arith)) (tt, tt)
+    either Good unconfirmed (tt, good_event id address h.0 h.1 Kind.mute 0 none_byte) (tt, tt)
 good_look (byte_s write id address nth unconfirmed) true false h = (h, tt)
 good_look (byte_s false id address nth unconfirmed) true true h = (h, tt)
 good_look (byte_s true id address nth unconfirmed) true true h = (h, tt)
@@ -152,7 +158,7 @@ good_look (reads id address nth (suc left) so_far) m x h = (h, tt)
 good_look (reads id address nth zero so_far) m x h = (h, good_event id address h.0 h.1 (read_kind (push so_far x)) _ (byte_of_lem (push so_far x)))
 good_look (writes id address nth (suc left) so_far echoed) m x h = (h, tt)
 good_look (writes id address nth zero so_far echoed) m x h = (h, good_event id address h.0 h.1 (write_kind (push so_far m) (echoed && beq x m)) _ (byte_of_lem (push so_far m)))
-good_look (ask_p write id address nth) m true h = (tt, good_event id address h.0 h.1 Kind.closed 0 (omega arith))
+good_look (ask_p write id address nth) m true h = (tt, good_event id address h.0 h.1 Kind.closed 0 none_byte)
 good_look (ask_p write id address nth) m false h =
     tested (ltb (address + 1) address_count && ltb nth byte_limit)
     (λ q.
@@ -169,7 +175,7 @@ good_look (ask_ex ids cmd fitting) true x h = (tt, good_command ids cmd h (execu
 good_step : (s : Timed Phase) (m x : Bool) → At Held s → At Held (step s m x).state × IfAny Bytes (step s m x).says
 unfolding step
 good_step s m x h =
-    keeps Held (omega arith, tt) (IfAny Bytes) tt (event_bytes Kind.end 0 0 0 (omega arith) (omega arith) (omega arith))
+    keeps Held (omega arith, tt) (IfAny Bytes) tt (plain_bytes Kind.end 0 none_byte)
     (λ p g. good_look p m x g) s m h
 
 -- A column below the limit, a start before it, and fields that are bytes: of an entry before its bank is known ..

@@ -4,7 +4,7 @@ use mathlib.Core.List.{List, [], ◌∷◌, ◌++◌, append_assoc, append-nil}
 use Prim.Native.Nat.{ℕ, ◌+◌, ◌*◌, ◌≤◌}
 use native.Mathlib.Nat.{add-zero}
 use native.Mathlib.Omega.{arith}
-use borrow.Author.Tests.{lt-ltb, le-ltb}
+use borrow.Author.Tests.{lt-ltb}
 use lib.Dec.{ltb}
 use lib.ListN.{length, drop, length-append, length-drop}
 use lib.Seq.{sets, sets-eq, length-sets, take_at, drop-append-add, drop-drop}
@@ -69,9 +69,3 @@ kept_append [] others out n = rw add-zero
 kept_append (e ∷ es) others out n =
     kept_append es others (kept out n (bytes_of current e)) (n + 1)
     ∙ ap (λ (m : ℕ). kept_all (kept_all (kept out n (bytes_of current e)) (n + 1) es) m others) (omega arith)
-
--- Without room the buffer stays as it is.
-pub kept_empty : (n : ℕ) (es : List Banked) → kept_all [] n es ≡ []
-unfolding kept_all kept
-kept_empty n [] = refl
-kept_empty n (e ∷ es) = rw (le-ltb n 0 (omega arith)) (kept_empty (n + 1) es)

@@ -7,37 +7,38 @@ use Prim.Native.Nat.{ℕ, zero, suc, ◌+◌, ◌-◌, ◌≤◌, ◌<◌}
 use native.Mathlib.Nat.{le_refl, le_of_suc-le-suc, not-suc-le-zero, add-zero}
 use native.Mathlib.Numerals.{add-one}
 use native.Mathlib.Omega.{arith}
-use lib.ListN.{length, take, drop, get_or, drop_of_length-le, length-drop}
+use lib.ListN.{length, take, drop, get_or, length-drop}
 use lib.Seq.{take_all}
+use Rattle.std.specs.Prelude.{Some, None}
 use Rattle.protocol.specs.Bits.{bit_of, row_of}
 use Rattle.protocol.specs.Rest.{Timed, framed, power_on}
 use Rattle.protocol.specs.Entries as protocol
-use Rattle.protocol.specs.Entries.{Kind, number, kinds, numbered, opened, onward, note}
-use Rattle.protocol.specs.Banks.{unknown, learnt, learnt_all, banked}
-use Rattle.protocol.specs.Layout.{field_bytes, bytes_of}
+use Rattle.protocol.specs.Entries.{opened, onward, note}
+use Rattle.protocol.specs.Banks.{unknown, learnt, learnt_all, bank_of, banked}
 use Rattle.protocol.specs.Reader as Reader
 use Rattle.protocol.specs.Reader.{Phase, look, begun, Column, col, columns, entries, place_after, entries_from, list_from}
 use Rattle.protocol.proofs.Machine.{silent_outside}
-use Rattle.protocol.proofs.Codec.{numbered_own}
 use Rattle.protocol.proofs.Banks.{length_banked}
 use Rattle.laws.proofs.Every.{either, tested}
-use Rattle.kinds.specs.Kinds.{is_kind}
-use Rattle.reader.specs.Code.{state_of, place_of, Moved, event_of, moved, after, Steps}
+use Rattle.reader.specs.Code.{state_of, place_of, event_of, says_of, Moved, moved, after}
 use Rattle.reader.specs.declared.Event.{Event}
 use Rattle.reader.specs.declared.Reader as code
 use Rattle.reader.specs.declared.Stepped.{Stepped}
 use Rattle.read.specs.Read.{list_of}
-use Rattle.read.specs.Parts.{bytes_for, bank_by, learnt_by, kept, kept_all, Reached, reached}
-use Rattle.read.proofs.Known.{some_kind, bank_is}
+use Rattle.read.specs.Parts.{entry_of, kept, kept_all, Reached, reached}
 
 -- The column at i stands first of what is left ..
-column_here : (i : ℕ) (ms xs : List ℕ) → i < length ms → i < length xs
+first_left : (i : ℕ) (ms xs : List ℕ) → i < length ms → i < length xs
     → drop i (columns (row_of ms) (row_of xs)) ≡ col (bit_of (get_or ms i 0)) (bit_of (get_or xs i 0)) ∷ drop (suc i) (columns (row_of ms) (row_of xs))
 unfolding columns row_of
-column_here i [] xs h g = absurd (not-suc-le-zero h)
-column_here i (m ∷ ms) [] h g = absurd (not-suc-le-zero g)
-column_here zero (m ∷ ms) (x ∷ xs) h g = refl
-column_here (suc i) (m ∷ ms) (x ∷ xs) h g = column_here i ms xs (le_of_suc-le-suc h) (le_of_suc-le-suc g)
+first_left i [] xs h g = absurd (not-suc-le-zero h)
+first_left i (m ∷ ms) [] h g = absurd (not-suc-le-zero g)
+first_left zero (m ∷ ms) (x ∷ xs) h g = refl
+first_left (suc i) (m ∷ ms) (x ∷ xs) h g = first_left i ms xs (le_of_suc-le-suc h) (le_of_suc-le-suc g)
+
+pub column_here : (i : ℕ) (ms xs : List ℕ) → i < length ms → i < length xs
+    → drop i (columns (row_of ms) (row_of xs)) ≡ col (bit_of (get_or ms i 0)) (bit_of (get_or xs i 0)) ∷ drop (i + 1) (columns (row_of ms) (row_of xs))
+column_here i ms xs h g = rw add-one (first_left i ms xs h g)
 
 -- .. and past the last there is none.
 pub length_columns : (ms xs : List ℕ) → length (columns (row_of ms) (row_of xs)) ≤ length ms
@@ -73,11 +74,6 @@ length_listed k cdm cds =
       length_columns cdm cds,
     )
 
--- No kind has the number 0, by which the code says that there is no event.
-not_zero : (k : Kind) → number k ≡ 0 → ⊥
-unfolding numbered
-not_zero k e = none-ne-some k (ap (λ (n : ℕ). numbered n kinds) (sym e) ∙ numbered_own k)
-
 -- A column without an event, and one with: what is reached from it is what is reached from behind it.
 module _ (s : Timed Phase) (m x : Bool) (p : protocol.Place) (known : List ℕ) (n : ℕ) (out : List ℕ) (cs : List Column) where
   abbrev next : Reader.Step
@@ -86,109 +82,93 @@ module _ (s : Timed Phase) (m x : Bool) (p : protocol.Place) (known : List ℕ) 
   abbrev from : List ℕ → ℕ → List ℕ → Reached
   from known' n' out' = reached next.state (onward next.state p) known' n' out' cs
 
-  silent : (o : Option protocol.Event) → next.says ≡ o → (event_of o).kind ≡ 0 → reached s p known n out (col m x ∷ cs) ≡ from known n out
+  silent : next.says ≡ none → reached s p known n out (col m x ∷ cs) ≡ from known n out
   unfolding reached entries place_after Reader.after
-  silent none q e = rw q
-  silent (some a) q e = absurd (not_zero a.kind e)
+  silent q = rw q
 
-  given : (o : Option protocol.Event) → next.says ≡ o → ((event_of o).kind ≡ 0 → ⊥)
-      → reached s p known n out (col m x ∷ cs)
-      ≡ from (learnt_by known (event_of o)) (n + 1) (kept out n (bytes_for p (event_of o) (bank_by known (event_of o))))
-  unfolding reached entries place_after Reader.after banked learnt learnt_by learnt_all kept_all bytes_for bytes_of field_bytes
-  given none q h = absurd (h refl)
-  given (some a) q h =
+  given : (e : protocol.Event) → next.says ≡ some e
+      → reached s p known n out (col m x ∷ cs) ≡ from (learnt known e) (n + 1) (kept out n (entry_of p e (bank_of known e)))
+  unfolding reached entries place_after Reader.after banked learnt_all kept_all
+  given e q =
       let es : List protocol.Entry = entries next.state (onward next.state p) cs in
-      let out' : List ℕ = kept out n (bytes_for p (event_of (some a)) (bank_by known (event_of (some a)))) in
-      rw (q, ← bank_is known a)
+      rw q
       (ap (λ (k : ℕ). record {
         state = Reader.after next.state cs;
         place = place_after next.state (onward next.state p) cs;
-        known = learnt_all (learnt known a) es;
+        known = learnt_all (learnt known e) es;
         count = k;
-        buffer = kept_all out' (n + 1) (banked (learnt known a) es);
+        buffer = kept_all (kept out n (entry_of p e (bank_of known e))) (n + 1) (banked (learnt known e) es);
       }) (more (length es)))
     where
       more : (k : ℕ) → n + suc k ≡ n + 1 + k
       more k = omega arith
 
 -- A step of the code in a column of the row.
-module _ (reader : code.Reader) (column : ℕ) {m x : Bool} {r : Stepped} (steps : Steps (state_of reader) (place_of reader column) m x r) where
+module _ (reader : code.Reader) (column : ℕ) (m x : Bool) (r : Stepped)
+    (steps : after column r ≡ moved (Reader.step (state_of reader) m x) (place_of reader column)) where
   abbrev step : Reader.Step
   step = Reader.step (state_of reader) m x
 
   state_is : state_of r.next ≡ step.state
   unfolding after moved
-  state_is = ap (λ (v : Moved). v.state) steps.meets
+  state_is = ap (λ (v : Moved). v.state) steps
 
   place_is : place_of r.next (column + 1) ≡ onward step.state (place_of reader column)
   unfolding after moved
-  place_is = rw add-one (ap (λ (v : Moved). v.place) steps.meets)
+  place_is = rw add-one (ap (λ (v : Moved). v.place) steps)
 
-  event_is : r.event ≡ event_of step.says
+  says_is : says_of r.event ≡ step.says
   unfolding after moved
-  event_is = ap (λ (v : Moved). v.event) steps.meets
+  says_is = ap (λ (v : Moved). v.says) steps
 
   pub still_early : (place_of reader column).start ≤ column → (place_of r.next (column + 1)).start ≤ column + 1
   still_early early =
       rw (ap (λ (p : protocol.Place). p.start) place_is, add-one) (start_early step.state (place_of reader column) early)
 
   -- Only a frame shows an event, and there the S that the reader holds is the frame's.
-  module _ (e : r.event.kind ≡ 0 → ⊥) where
+  module _ (e : Event) (shown : r.event ≡ Some e) where
+    says_some : step.says ≡ some (event_of e)
+    says_some = sym says_is ∙ ap says_of shown
+
     within_frame : framed (state_of reader) ≡ true
     unfolding Reader.step
     within_frame =
         tested (framed (state_of reader)) (λ f. f)
         (λ f.
         let silence : step.says ≡ none = silent_outside begun none _ (λ p. look p m x) (state_of reader) m f in
-        absurd (e (ap (λ (v : Event). v.kind) (event_is ∙ ap event_of silence))))
+        absurd (none-ne-some _ (sym silence ∙ says_some)))
 
-    pub its_kind : is_kind r.event.kind ≡ true
-    its_kind = rw event_is (some_kind step.says (rw (← event_is) e))
-
-    its_place : record { column = column; start = reader.body.start } ≡ place_of reader column
+    its_place : record { column = column; start = reader.start } ≡ place_of reader column
     its_place = rw within_frame
 
-    pub early_enough : (place_of reader column).start ≤ column → reader.body.start ≤ column
+    pub early_enough : (place_of reader column).start ≤ column → reader.start ≤ column
     early_enough early = rw within_frame at early
 
--- The rows from column i on, by such a step.
-module _ (cdm cds : List ℕ) (i : ℕ) (h : i < length cdm) (same : length cdm ≡ length cds) (reader : code.Reader) (column : ℕ) (r : Stepped)
-    (steps : Steps (state_of reader) (place_of reader column) (bit_of (get_or cdm i 0)) (bit_of (get_or cds i 0)) r) (known : List ℕ) (n : ℕ) (out : List ℕ) where
-  abbrev rows : ℕ → List Column
-  rows k = drop k (columns (row_of cdm) (row_of cds))
+  -- The column stands first of what is left.
+  module _ (known : List ℕ) (n : ℕ) (out : List ℕ) {cs rest : List Column} (here : cs ≡ col m x ∷ rest) where
+    abbrev before : Reached
+    before = reached (state_of reader) (place_of reader column) known n out cs
 
-  abbrev before : Reached
-  before = reached (state_of reader) (place_of reader column) known n out (rows i)
+    abbrev to : List ℕ → ℕ → List ℕ → Reached
+    to known' n' out' = reached (state_of r.next) (place_of r.next (column + 1)) known' n' out' rest
 
-  abbrev to : List ℕ → ℕ → List ℕ → Reached
-  to known' n' out' = reached (state_of r.next) (place_of r.next (column + 1)) known' n' out' (rows (i + 1))
+    pub turn_none : r.event ≡ None → before ≡ to known n out
+    turn_none e =
+        rw (here, place_is, state_is) (silent (state_of reader) m x (place_of reader column) known n out rest (sym says_is ∙ ap says_of e))
 
-  here : rows i ≡ col (bit_of (get_or cdm i 0)) (bit_of (get_or cds i 0)) ∷ rows (i + 1)
-  here = rw add-one (column_here i cdm cds h (omega arith))
-
-  pub turn_none : r.event.kind ≡ 0 → before ≡ to known n out
-  turn_none e =
-      rw (here, place_is reader column steps, state_is reader column steps)
-      (silent (state_of reader) _ _ (place_of reader column) known n out (rows (i + 1)) _ refl (rw (← event_is reader column steps) e))
-
-  pub turn_some : (r.event.kind ≡ 0 → ⊥)
-      → before
-      ≡ to (learnt_by known r.event) (n + 1)
-      (kept out n (bytes_for (record { column = column; start = reader.body.start }) r.event (bank_by known r.event)))
-  turn_some e =
-      let event : r.event ≡ event_of (step reader column steps).says = event_is reader column steps in
-      rw (its_place reader column steps e, here, place_is reader column steps, state_is reader column steps, event)
-      (given (state_of reader) _ _ (place_of reader column) known n out (rows (i + 1)) _ refl (rw (← event) e))
+    pub turn_some : (e : Event) → r.event ≡ Some e
+        → before
+        ≡ to (learnt known (event_of e)) (n + 1)
+        (kept out n (entry_of (record { column = column; start = reader.start }) (event_of e) (bank_of known (event_of e))))
+    turn_some e shown =
+        rw (its_place e shown, here, place_is, state_is)
+        (given (state_of reader) m x (place_of reader column) known n out rest (event_of e) (says_some e shown))
 
 -- At the end nothing is left.
-pub none_left : (cdm cds : List ℕ) (i : ℕ) (s : Timed Phase) (p : protocol.Place) (known : List ℕ) (n : ℕ) (out : List ℕ)
-    → length cdm ≤ i
-    → reached s p known n out (drop i (columns (row_of cdm) (row_of cds)))
-    ≡ record { state = s; place = p; known = known; count = n; buffer = out }
+pub none_left : (cs : List Column) → cs ≡ [] → (s : Timed Phase) (p : protocol.Place) (known : List ℕ) (n : ℕ) (out : List ℕ)
+    → reached s p known n out cs ≡ record { state = s; place = p; known = known; count = n; buffer = out }
 unfolding reached entries place_after Reader.after banked learnt_all kept_all
-none_left cdm cds i s p known n out h =
-    let short : length (columns (row_of cdm) (row_of cds)) ≤ i = omega (arith, length_columns cdm cds) in
-    rw (drop_of_length-le (columns (row_of cdm) (row_of cds)) short, add-zero)
+none_left cs e s p known n out = rw (e, add-zero)
 
 -- From power-on at column k: the list.
 columns_from : (k : ℕ) (cdm cds : List ℕ) → columns (row_of (drop k cdm)) (row_of (drop k cds)) ≡ drop k (columns (row_of cdm) (row_of cds))

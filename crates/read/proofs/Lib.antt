@@ -1,5 +1,6 @@
-mod Known
+mod Written
 pub mod Left
+mod Turns
 pub mod Kept
 pub mod Bytes
 pub mod Ends

@@ -1,16 +1,13 @@
 -- What read's helpers do, for their contracts: nothing here is needed to read what read promises.
-use Rattle.std.specs.Prelude.{◌≡◌, Bool, cond, ◌&&◌, List, [], ◌∷◌, ℕ, ◌+◌, ◌*◌, ◌/◌, ◌≤◌, ltb, eqb, length, get_or, set}
+use Rattle.std.specs.Prelude.{◌≡◌, cond, List, [], ◌∷◌, ℕ, ◌+◌, ◌*◌, ◌/◌, ◌≤◌, ltb, length}
 use Rattle.std.proofs.lemmas.List.Edits.{sets}
-use Rattle.protocol.specs.Limits.{column_limit, bank_register}
+use Rattle.protocol.specs.Limits.{column_limit}
 use Rattle.protocol.specs.Rest.{Timed}
 use Rattle.protocol.specs.Entries as protocol
-use Rattle.protocol.specs.Entries.{number, Kind}
-use Rattle.protocol.specs.Banks.{Banked, no_bank, learnt_all, banked}
-use Rattle.protocol.specs.Layout.{Field, fields, current, entry_bytes, field_bytes, bytes_of}
+use Rattle.protocol.specs.Banks.{Banked, learnt_all, banked}
+use Rattle.protocol.specs.Layout.{current, entry_bytes, bytes_of}
 use Rattle.protocol.specs.Reader.{Phase, Column, entries, after, place_after}
-use Rattle.names.specs.Names.{names_bank_of}
 use Rattle.reader.specs.Code.{state_of, place_of}
-use Rattle.reader.specs.declared.Event.{Event}
 use Rattle.read.specs.declared.Place.{Place}
 use Rattle.read.specs.declared.Reading.{Reading}
 
@@ -28,31 +25,9 @@ place_in p = record { column = p.column; start = p.start }
 abbrev pub InRow : Place → Type 0
 InRow p = (p.column ≤ column_limit) × (p.start ≤ p.column)
 
--- What the code has in each field ..
-abbrev pub value_for : protocol.Place → Event → (bank : ℕ) → Field → ℕ
-value_for p e bank Field.kind = e.kind
-value_for p e bank Field.column = p.column
-value_for p e bank Field.start = p.start
-value_for p e bank Field.id = e.id
-value_for p e bank Field.address = e.address
-value_for p e bank Field.bank = bank
-value_for p e bank Field.value = e.value
-
--- .. and the bytes of it.
-unfoldable pub bytes_for : protocol.Place → Event → (bank : ℕ) → List ℕ
-bytes_for p e bank = field_bytes current fields (value_for p e bank)
-
--- An event's bank, by the kind's number ..
-unfoldable pub bank_by : (known : List ℕ) → Event → ℕ
-bank_by known e = cond (names_bank_of e.kind e.address) (get_or known e.id no_bank) 0
-
--- .. whether it chooses one ..
-abbrev pub chooses_by : Event → Bool
-chooses_by e = eqb e.kind (number Kind.written) && eqb e.address bank_register
-
--- .. and what is known of the banks behind it.
-unfoldable pub learnt_by : (known : List ℕ) → Event → List ℕ
-learnt_by known e = cond (chooses_by e) (set known e.id e.value) known
+-- The bytes of an entry by its parts.
+abbrev pub entry_of : protocol.Place → protocol.Event → (bank : ℕ) → List ℕ
+entry_of p e bank = bytes_of current (record { entry = record { place = p; event = e }; bank = bank })
 
 -- So many entries have room.
 abbrev pub room_of : (out : List ℕ) → ℕ
@@ -94,7 +69,7 @@ reached_by r out =
     record {
       state = state_of r.reader;
       place = place_of r.reader r.column;
-      known = r.known;
+      known = r.banks.known;
       count = r.count;
       buffer = out;
     }

@@ -1,12 +1,12 @@
 -- The job read: when it refuses, and what it lists. The reader itself is protocol's (specs/Reader).
-use Rattle.std.specs.Prelude.{List, [], ◌∷◌, ◌++◌, ℕ, ltb, length}
+use Rattle.std.specs.Prelude.{List, [], ◌∷◌, ◌++◌, ℕ, ltb, length, Result}
 use Rattle.protocol.specs.Bits.{row_of}
 use Rattle.protocol.specs.Banks.{Banked}
 use Rattle.protocol.specs.Layout.{current, list_bytes}
 use Rattle.protocol.specs.Reader.{columns, list_from}
 use Rattle.job.specs.Refusals.{Rule, when, lent, Ended}
 use Rattle.job.specs.Rows.{wrong_rows}
-use Rattle.job.specs.declared.Outcome.{Outcome}
+use Rattle.job.specs.declared.Refusal.{Refusal}
 
 -- The entries, with their banks, that two recorded rows show to a reader let in at column k.
 unfoldable pub list_of : (k : ℕ) → (cdm cds : List ℕ) → List Banked
@@ -22,7 +22,7 @@ refusals cdm cds k room =
     rows_refusals cdm cds k ++ when (ltb room (length (list_bytes current (list_of k cdm cds)))) 9 ∷ []
 
 -- What read returns, in entries, and what it leaves in the lent buffer.
-pub record Listed (cdm cds : List ℕ) (k : ℕ) (out : List ℕ) (outcome : Outcome) (after : List ℕ) : Type 0 where
+pub record Listed (cdm cds : List ℕ) (k : ℕ) (out : List ℕ) (outcome : Result ℕ Refusal) (after : List ℕ) : Type 0 where
   pub ends :
       Ended (refusals cdm cds k (length out)) (length (list_of k cdm cds)) (lent (list_bytes current (list_of k cdm cds)) out ∷ []) outcome
       (after ∷ [])

@@ -1,76 +1,107 @@
--- The ends of the call: refused by a job or for want of room, or all made. Assumes nothing.
-use mathlib.Core.Path.{◌≡◌, refl, ◌∙◌}
-use mathlib.Core.List.{List, [], ◌∷◌}
-use mathlib.Core.Option.{none, some, or_else}
-use Prim.Native.Nat.{ℕ, ◌≤◌, ◌<◌}
+-- The ends of the call: refused by the lengths, by a job or for want of room, or all made. Assumes nothing.
+use mathlib.Core.Path.{◌≡◌, refl, sym, ◌∙◌}
+use mathlib.Core.List.{List, ◌∷◌}
+use mathlib.Core.Option.{Option, none, some, or_else}
+use Prim.Native.Nat.{ℕ, ◌≤◌}
 use native.Mathlib.Omega.{arith}
-use borrow.Author.Tests.{lt-ltb, le-ltb, eq-eqb}
-use lib.Dec.{ltb}
+use borrow.Author.Tests.{ltb-false, eqb-true, ne_eqb, not-false}
 use lib.ListN.{length}
 use lib.Seq.{sets}
+use Rattle.std.specs.Prelude.{Result, Ok, Err}
 use Rattle.protocol.specs.Layout.{current, list_bytes}
 use Rattle.protocol.proofs.Codec.{length_list}
-use Rattle.job.specs.Refusals.{of_job, refusal, when, first, detail, lent_after}
-use Rattle.job.specs.declared.Outcome.{Outcome}
-use Rattle.job.specs.declared.Outcome.TheVariants.{Made, Refused}
-use Rattle.job.specs.declared.Detail as Code
-use Rattle.job.specs.declared.Detail.TheVariants.{Alone, OfJob}
-use Rattle.job.proofs.Refusals.{ended_refused, ended_made, laid}
+use Rattle.job.specs.Refusals.{Refusal, Rule, found, first, refusal_of, lent_after}
+use Rattle.job.specs.declared.Reason.TheVariants.{WrongTally}
+use Rattle.job.specs.declared.Detail.TheVariants.{Alone}
+use Rattle.job.specs.declared.Refusal as Returned
+use Rattle.job.proofs.Refusals.{no, first_append, ended_refused, ended_made, laid}
 use Rattle.read.specs.Parts.{room_of, kept_all}
 use Rattle.read.proofs.Kept.{kept_whole}
-use Rattle.read_all.specs.ReadAll.{lists_of, counts_of, refusals, ListedAll}
-use Rattle.read_all.specs.Passes.{Call, Even, placing, judging, lists, Through, Untouched}
+use Rattle.read_all.specs.declared.Job.{Job}
+use Rattle.read_all.specs.ReadAll.{lists_of, counts_of, place_refusals, own_refusals, first_job, refusals, ListedAll}
+use Rattle.read_all.specs.Passes.{length_refusals, room_refusals, Good}
 use Rattle.read_all.proofs.Tables.{length_counts}
 
-module _ (c : Call) where
-  abbrev Ends : Outcome → (after tally : List ℕ) → Type 0
-  Ends = ListedAll c.cdm c.cds c.jobs c.out c.counts
+module _ (cdm cds : List ℕ) (jobs : List Job) (out counts : List ℕ) where
+  abbrev Ends : Result ℕ Returned.Refusal → (after tally : List ℕ) → Type 0
+  Ends = ListedAll cdm cds jobs out counts
 
-  abbrev bytes : List ℕ
-  bytes = list_bytes current (lists_of c.cdm c.cds c.jobs)
+  abbrev given_all : Option Refusal
+  given_all = first (refusals cdm cds jobs (length out) (length counts))
 
-  -- Past 32 and 6.
-  module _ (even : Even c) where
-    left : first (refusals c.cdm c.cds c.jobs (length c.out) (length c.counts))
-        ≡ or_else (placing c 0 c.jobs) (or_else (judging c 0 c.jobs) (first (when (ltb (length c.out) (length bytes)) 9 ∷ [])))
-    unfolding refusals first
-    left = rw (eq-eqb _ _ even.one_each, eq-eqb _ _ even.rows)
+  -- What each pass may give.
+  abbrev lengths : List Rule
+  lengths = length_refusals (length cdm) (length cds) (length jobs) (length counts)
 
-    -- Refused, with both buffers as they were lent ..
-    module _ {out counts : List ℕ} (as_lent : Untouched c out counts) where
-      refused_ends : (k : ℕ) (beside : Code.Detail)
-          → first (refusals c.cdm c.cds c.jobs (length c.out) (length c.counts)) ≡ some (refusal k (detail beside))
-          → Ends (Refused k beside) out counts
-      refused_ends k beside e =
-          rw (as_lent.0, as_lent.1) (record { ends = ended_refused _ _ _ (Refused k beside) (refusal k (detail beside)) refl e })
+  abbrev placing : Option Refusal
+  placing = first_job (place_refusals (length cdm)) 0 jobs
 
-      -- .. by 20 of a job, by the reader's own, or by 9 for the sum ..
-      pub outside_ends : (k i : ℕ) → placing c 0 c.jobs ≡ some (refusal k (of_job i)) → Ends (Refused k (OfJob i)) out counts
+  abbrev judging : Option Refusal
+  judging = first_job (own_refusals cdm cds) 0 jobs
+
+  abbrev counting : Option Refusal
+  counting = first (room_refusals cdm cds jobs (length out))
+
+  in_order : given_all ≡ or_else (first lengths) (or_else placing (or_else judging counting))
+  unfolding refusals room_refusals length_refusals first
+  in_order = first_append lengths (found 20 placing ∷ found 5 judging ∷ room_refusals cdm cds jobs (length out))
+
+  module _ (r : Returned.Refusal) where
+    refused_ends : given_all ≡ some (refusal_of r) → Ends (Err r) out counts
+    refused_ends e = record { ends = ended_refused _ _ _ r e }
+
+    -- By 32 or 6, by 20, by the reader's own or by 9, with both buffers as they were lent ..
+    pub uneven_ends : some (refusal_of r) ≡ first lengths → Ends (Err r) out counts
+    unfolding or_else
+    uneven_ends e = refused_ends (in_order ∙ rw (← e))
+
+    module _ (even : none ≡ first lengths) where
+      pub outside_ends : some (refusal_of r) ≡ placing → Ends (Err r) out counts
       unfolding or_else
-      outside_ends k i e = refused_ends k (OfJob i) (left ∙ rw e)
+      outside_ends e = refused_ends (in_order ∙ rw (← even, ← e))
 
-      pub own_ends : (k i : ℕ) → placing c 0 c.jobs ≡ none → judging c 0 c.jobs ≡ some (refusal k (of_job i))
-          → Ends (Refused k (OfJob i)) out counts
-      unfolding or_else
-      own_ends k i p e = refused_ends k (OfJob i) (left ∙ rw (p, e))
+      module _ (within : none ≡ placing) where
+        pub own_ends : some (refusal_of r) ≡ judging → Ends (Err r) out counts
+        unfolding or_else
+        own_ends e = refused_ends (in_order ∙ rw (← even, ← within, ← e))
 
-      pub crowded_ends : Through c → room_of c.out < lists c c.jobs → Ends (Refused 9 Alone) out counts
-      unfolding first or_else
-      crowded_ends through h =
-          let more : length c.out < length bytes = omega (arith, length_list current (lists_of c.cdm c.cds c.jobs)) in
-          refused_ends 9 Alone (left ∙ rw (through.placed, through.judged, lt-ltb _ _ more))
+        pub crowded_ends : none ≡ judging → some (refusal_of r) ≡ counting → Ends (Err r) out counts
+        unfolding or_else
+        crowded_ends clear e = refused_ends (in_order ∙ rw (← even, ← within, ← clear, ← e))
 
-    -- .. or all lists and counts stand in the buffers.
-    module _ (through : Through c) where
-      pub made_ends : (n : ℕ) → lists c c.jobs ≤ room_of c.out → n ≡ lists c c.jobs
-          → Ends (Made n) (kept_all c.out 0 (lists_of c.cdm c.cds c.jobs)) (sets c.counts 0 (counts_of c.cdm c.cds c.jobs))
-      unfolding first or_else lent_after list_bytes
-      made_ends n h e =
-          let all = lists_of c.cdm c.cds c.jobs in
-          let fits : length bytes ≤ length c.out = omega (arith, length_list current all) in
-          let one : length (counts_of c.cdm c.cds c.jobs) ≤ length c.counts = omega (arith, even.one_each, length_counts c.cdm c.cds c.jobs) in
-          record {
-            ends =
-                ended_made _ _ _ n _ (left ∙ rw (through.placed, through.judged, le-ltb _ _ fits)) e
-                (rw (kept_whole all c.out h, laid (counts_of c.cdm c.cds c.jobs) c.counts one) refl);
-          }
+  -- The first of all is 32 ..
+  pub begun_uneven : (length counts ≡ length jobs → ⊥) → Ends (Err (record { reason = WrongTally; beside = Alone })) out counts
+  unfolding length_refusals first
+  begun_uneven h = uneven_ends _ (rw (ne_eqb _ _ h) refl)
+
+  -- .. or by none of them: then the rows are of one length, there is a count for each job, and no job is refused ..
+  module _ (even : none ≡ first lengths) where
+    pub one_each : length counts ≡ length jobs
+    unfolding length_refusals
+    one_each = eqb-true _ _ (not-false _ (no 32 lengths (sym even)))
+
+    pub same_rows : length cdm ≡ length cds
+    unfolding length_refusals
+    same_rows = eqb-true _ _ (not-false _ (no 6 lengths (sym even)))
+
+    pub good : none ≡ placing → none ≡ judging → Good cdm cds jobs
+    good within clear = record { placed = record { inside = sym within }; clear = sym clear }
+
+    -- .. all lists have room ..
+    pub room : none ≡ counting → length (lists_of cdm cds jobs) ≤ room_of out
+    unfolding room_refusals
+    room enough =
+        let fits : length (list_bytes current (lists_of cdm cds jobs)) ≤ length out = ltb-false _ _ (no 9 _ (sym enough)) in
+        omega (arith, length_list current (lists_of cdm cds jobs))
+
+    -- .. and all lists and counts stand in the buffers.
+    pub made_ends : none ≡ placing → none ≡ judging → none ≡ counting → (n : ℕ) (after tally : List ℕ) → n ≡ length (lists_of cdm cds jobs)
+        → after ≡ kept_all out 0 (lists_of cdm cds jobs) → tally ≡ sets counts 0 (counts_of cdm cds jobs) → Ends (Ok n) after tally
+    unfolding or_else lent_after list_bytes
+    made_ends within clear enough n after tally e a t =
+        let one : length (counts_of cdm cds jobs) ≤ length counts = omega (arith, one_each, length_counts cdm cds jobs) in
+        rw (a, t) (record {
+          ends =
+              ended_made _ _ _ n _ (in_order ∙ rw (← even, ← within, ← clear, ← enough)) e
+              (rw (kept_whole (lists_of cdm cds jobs) out (room enough), laid (counts_of cdm cds jobs) counts one) refl);
+        })

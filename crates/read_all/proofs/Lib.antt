@@ -2,10 +2,8 @@
 -- result, and that each job is as its single call.
 pub mod Cases
 pub mod Tables
-mod Cut
+mod Wider
 mod Ends
-mod Steps
-mod Begins
-mod Turns
+mod Passes
 mod Unique
 pub mod Single

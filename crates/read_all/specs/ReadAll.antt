@@ -1,12 +1,12 @@
 -- A night's intake in one call: when it refuses, and what it makes. Request 06: "Take a lent table of jobs, each with its first column,
 -- length and opening column, and make all lists into one buffer with the count of each. The outcome equals the calls made singly, in table
 -- order." So each job is the single call (read's specs/Read) on its part of the rows.
-use Rattle.std.specs.Prelude.{not, List, [], ◌∷◌, ◌++◌, map, ℕ, ◌+◌, ltb, eqb, length, take, drop}
+use Rattle.std.specs.Prelude.{not, List, [], ◌∷◌, ◌++◌, map, ℕ, ◌+◌, ltb, eqb, length, take, drop, Result}
 use Rattle.std.proofs.Math.Option.{Option, none, some, or_else}
 use Rattle.protocol.specs.Banks.{Banked}
 use Rattle.protocol.specs.Layout.{current, list_bytes}
 use Rattle.job.specs.Refusals.{of_job, Refusal, refusal, Rule, when, found, first, lent, Ended}
-use Rattle.job.specs.declared.Outcome.{Outcome}
+use Rattle.job.specs.declared.Refusal as Returned
 use Rattle.read.specs.Read.{list_of, rows_refusals}
 use Rattle.read_all.specs.declared.Job.{Job}
 
@@ -57,7 +57,7 @@ refusals cdm cds jobs room counts =
     ∷ []
 
 -- What the call returns, in entries of all lists, and what it leaves in the two lent buffers.
-pub record ListedAll (cdm cds : List ℕ) (jobs : List Job) (out counts : List ℕ) (outcome : Outcome) (after tally : List ℕ) : Type 0 where
+pub record ListedAll (cdm cds : List ℕ) (jobs : List Job) (out counts : List ℕ) (outcome : Result ℕ Returned.Refusal) (after tally : List ℕ) : Type 0 where
   pub ends :
       Ended (refusals cdm cds jobs (length out) (length counts)) (length (lists_of cdm cds jobs))
       (lent (list_bytes current (lists_of cdm cds jobs)) out ∷ lent (counts_of cdm cds jobs) counts ∷ []) outcome (after ∷ tally ∷ [])

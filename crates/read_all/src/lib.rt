@@ -1,17 +1,17 @@
-// Many stretches of one recording in one call (Request 06). The call itself stands in biss, since it alone walks the lent table; here
-// is what it asks of one job at a time, in passes over the table: whether every stretch lies within the rows, what the reader refuses,
-// whether all lists have room, and last the lists. No byte is written before every refusal is ruled out.
+// Many stretches of one recording in one call (Request 06), in passes over the table: whether every stretch lies within the rows, what the
+// reader refuses, whether all lists have room, and last the lists. No byte is written before every refusal is ruled out.
 #![tactic(auto)]
 
-ghost use Rattle.std.specs.Prelude.{◌≡◌, ◌+◌, ◌^◌, ◌≤◌, ◌<◌, ltb, length, set};
-ghost use Rattle.job.specs.Refusals.{first, given};
-ghost use Rattle.read.specs.Parts.{kept_all, room_of};
-ghost use Rattle.read_all.specs.ReadAll.{list_for, place_refusals, own_refusals};
-ghost use Rattle.read_all.specs.Passes.{Inside, Judged, going, started, over, more, or_stopped, filled, counted, behind, following, Begun, Asked, Turns};
-ghost use Rattle.job.specs.declared.Outcome.TheVariants.{Refused};
-ghost use Rattle.job.specs.declared.Detail.TheVariants.{OfJob};
+ghost use Rattle.std.specs.Prelude.{◌≡◌, ◌+◌, ◌≤◌, ltb, leb, length};
+ghost use Rattle.std.proofs.lemmas.List.Edits.{sets};
+ghost use Rattle.job.specs.Refusals.{when, first, given};
+ghost use Rattle.read.specs.Read.{list_of};
+ghost use Rattle.read.specs.Parts.{Rows, kept_all, room_of};
+ghost use Rattle.read_all.specs.ReadAll.{stretch, list_for, lists_of, counts_of, place_refusals, own_refusals, first_job, ListedAll};
+ghost use Rattle.read_all.specs.Passes.{stopped, length_refusals, room_refusals, columns_of, Placed, Good};
 
-use job::{Detail, ENTRY_BYTES, Outcome};
+use job::{Detail, ENTRY_BYTES, Reason, Refusal};
+use read::Opened;
 
 // "its first column, length and opening column": the first of the recording's columns, the other counted from there.
 #[repr(C)]
@@ -22,123 +22,160 @@ pub struct Job {
     pub opening: usize,
 }
 
-// The passes, in the order in which they are made.
-const PLACING: u8 = 4;
-
-const JUDGING: u8 = 3;
-
-const COUNTING: u8 = 2;
-
-const WRITING: u8 = 1;
-
-const DONE: u8 = 0;
-
-// How far a call has come: the pass, the job that it asks next, how many entries the jobs before it have in this pass, whether there is
-// less room than columns, and how the call ends.
+// Two rows of one length.
 #[derive(Clone, Copy)]
-pub struct Intake {
-    pub pass: u8,
-    pub at: usize,
-    pub made: usize,
-    pub crowded: bool,
-    pub outcome: Outcome,
+struct Recording<'a> {
+    cdm: &'a [u8],
+    cds: &'a [u8],
+    ghost even: { length cdm.now ≡ length cds.now },
 }
 
-// 32 and 6 by the lengths alone; with no job all is made.
-pub fn begin(columns: usize, others: usize, jobs: usize, counts: usize) -> Intake
-    ensures { Begun columns others jobs counts result }
-{
-    if counts != jobs {
-        return done(Outcome::Refused(32, Detail::Alone));
-    }
-    if columns != others {
-        return done(Outcome::Refused(6, Detail::Alone));
-    }
-    if jobs == 0 {
-        return done(Outcome::Made(0));
-    }
-    start(PLACING, false)
-}
-
-// Asks one job what this pass asks, and goes on to the next.
-pub fn turn(
+pub fn read_all(
     cdm: &[u8],
     cds: &[u8],
+    jobs: &[Job],
     out: &mut [u8],
     counts: &mut [usize],
-    state: Intake,
-    job: Job,
-) -> Intake
-    requires { Asked cdm.now cds.now out.old counts.old state job }
-    ensures { Turns cdm.now cds.now out.old counts.old state job result out.new counts.new }
+) -> Result<usize, Refusal>
+    ensures { ListedAll cdm.now cds.now jobs.now out.old counts.old result out.new counts.new }
 {
-    if state.pass == PLACING {
-        next(
-            placed(cdm.len(), out.len() / ENTRY_BYTES, state, job),
-            counts.len(),
-        )
-    } else if state.pass == JUDGING {
-        next(judged(cdm, cds, state, job), counts.len())
-    } else if state.pass == COUNTING {
-        next(counted(cdm, cds, out, state, job), counts.len())
+    wrong_lengths(cdm.len(), cds.len(), jobs.len(), counts.len())?;
+    place_all(cdm.len(), jobs)?;
+    let recording = Recording { cdm, cds };
+    recording.judge_all(jobs)?;
+    recording.count_all(jobs, out.len())?;
+    Ok(recording.write_all(jobs, out, counts))
+}
+
+// 32 or 6, by the lengths alone.
+fn wrong_lengths(columns: usize, others: usize, jobs: usize, counts: usize) -> Result<(), Reason>
+    ensures { given result ≡ first (length_refusals columns others jobs counts) }
+{
+    if counts != jobs {
+        Err(Reason::WrongTally)
+    } else if columns != others {
+        Err(Reason::RowsDiffer)
     } else {
-        next(written(cdm, cds, out, counts, state, job), counts.len())
+        Ok(())
     }
 }
 
-// 20, or as many entries as the stretch has columns: no list has more.
-fn placed(columns: usize, room: usize, state: Intake, job: Job) -> Intake
-    requires { state.made ≤ room }
-    ensures { result ≡ or_stopped (first (place_refusals columns job)) state.at (filled room job.length state) }
+// 20 of the first stretch that lies outside the rows.
+fn place_all(columns: usize, jobs: &[Job]) -> Result<(), Refusal>
+    ensures { stopped result ≡ first_job (place_refusals columns) 0 jobs.now }
 {
-    if outside(columns, job) {
-        return stop(20, state);
+    for (i, job) in jobs.iter().enumerate() {
+        if outside(columns, *job) {
+            return Err(Refusal {
+                reason: Reason::OutsideRows,
+                beside: Detail::OfJob(i),
+            });
+        }
     }
-    if room - state.made < job.length {
-        go(state.pass, state.at, state.made, true)
-    } else {
-        add(state, job.length)
-    }
+    Ok(())
 }
 
 // Whether a stretch ends behind the last column, with no sum that could wrap.
 fn outside(columns: usize, job: Job) -> bool
     ensures { result ≡ ltb columns (job.first + job.length) }
 {
-    if columns < job.first {
-        true
-    } else {
-        columns - job.first < job.length
-    }
+    columns < job.first || columns - job.first < job.length
 }
 
-// 5, 7 or 8 of a stretch.
-fn judged(cdm: &[u8], cds: &[u8], state: Intake, job: Job) -> Intake
-    requires { Inside cdm.now cds.now job }
-    ensures { result ≡ or_stopped (first (own_refusals cdm.now cds.now job)) state.at (going state.pass state.at state.made state.crowded) }
-{
-    let why = own_refusal(cdm, cds, job);
-    if why != 0 {
-        stop(why, state)
-    } else {
-        go(state.pass, state.at, state.made, state.crowded)
+impl<'a> Recording<'a> {
+    // 5, 7 or 8 of the first stretch that has one.
+    fn judge_all(self, jobs: &[Job]) -> Result<(), Refusal>
+        requires { Placed (length self.cdm.now) jobs.now }
+        ensures { stopped result ≡ first_job (own_refusals self.entry.cdm.now self.entry.cds.now) 0 jobs.now }
+    {
+        for (i, job) in jobs.iter().enumerate() {
+            if let Err(reason) = self.own_refusal(*job) {
+                return Err(Refusal {
+                    reason,
+                    beside: Detail::OfJob(i),
+                });
+            }
+        }
+        Ok(())
     }
-}
 
-// 5, 7 or 8 of a stretch, or 0. Judged further than its end first: where nothing is wrong there, nothing is in the stretch.
-fn own_refusal(cdm: &[u8], cds: &[u8], job: Job) -> u8
-    requires { Inside cdm.now cds.now job }
-    ensures { given result ≡ first (own_refusals cdm.now cds.now job) }
-{
-    let first = job.first;
-    let end = first + job.length;
-    let wide = widened(cdm.len(), first, end);
-    if job.opening <= job.length {
-        if read::rows_refusal(&cdm[first..wide], &cds[first..wide], job.opening) == 0 {
-            return 0;
+    // 5, 7 or 8 of a stretch. Judged further than its end first: where nothing is wrong there, nothing is in the stretch.
+    fn own_refusal(self, job: Job) -> Result<(), Reason>
+        requires { job.first + job.length ≤ length self.cdm.now }
+        ensures { given result ≡ first (own_refusals self.entry.cdm.now self.entry.cds.now job) }
+    {
+        let first = job.first;
+        let wide = widened(self.cdm.len(), first, first + job.length);
+        if job.opening <= job.length
+            && read::rows_refusal(
+                &self.cdm[first..wide],
+                &self.cds[first..wide],
+                job.opening,
+            ).is_ok()
+        {
+            return Ok(());
+        }
+        let part = self.stretch(job);
+        read::rows_refusal(part.cdm, part.cds, job.opening)
+    }
+
+    // A job's part of it. That the job lies within the rows is asked in three places: a type that says so would hold rows and job once more.
+    fn stretch(self, job: Job) -> Recording<'a>
+        requires { job.first + job.length ≤ length self.cdm.now }
+        ensures { (result.cdm.now ≡ stretch job self.entry.cdm.now) × (result.cds.now ≡ stretch job self.entry.cds.now) }
+    {
+        let end = job.first + job.length;
+        Recording {
+            cdm: &self.cdm[job.first..end],
+            cds: &self.cds[job.first..end],
         }
     }
-    read::rows_refusal(&cdm[first..end], &cds[first..end], job.opening)
+
+    // .. as the reader lets it through.
+    fn opened(self, job: Job) -> Opened<'a>
+        requires { (job.first + job.length ≤ length self.cdm.now) × Rows (stretch job self.cdm.now) (stretch job self.cds.now) job.opening }
+        ensures { list_of result.opening result.cdm.now result.cds.now ≡ list_for self.entry.cdm.now self.entry.cds.now job }
+    {
+        let Recording { cdm, cds } = self.stretch(job);
+        Opened {
+            cdm,
+            cds,
+            opening: job.opening,
+        }
+    }
+
+    // 9 for all lists together. No column gives two entries, so with room for as many as there are columns they are not counted.
+    fn count_all(self, jobs: &[Job], room: usize) -> Result<(), Reason>
+        requires { Good self.cdm.now self.cds.now jobs.now }
+        ensures { given result ≡ first (room_refusals self.entry.cdm.now self.entry.cds.now jobs.now room) }
+    {
+        let mut left = room / ENTRY_BYTES;
+        if room_for_columns(jobs, left) {
+            return Ok(());
+        }
+        for job in jobs {
+            let n = self.opened(*job).count();
+            if left < n {
+                return Err(Reason::NoRoom);
+            }
+            left -= n;
+        }
+        Ok(())
+    }
+
+    // Each list behind those before it, and its count; returns how many entries all have.
+    fn write_all(self, jobs: &[Job], out: &mut [u8], counts: &mut [usize]) -> usize
+        requires { Good self.cdm.now self.cds.now jobs.now × (length (lists_of self.cdm.now self.cds.now jobs.now) ≤ room_of out.old) × (length counts.old ≡ length jobs.now) }
+        ensures { (result ≡ length (lists_of self.entry.cdm.now self.entry.cds.now jobs.now)) × (out.new ≡ kept_all out.old 0 (lists_of self.entry.cdm.now self.entry.cds.now jobs.now)) × (counts.new ≡ sets counts.old 0 (counts_of self.entry.cdm.now self.entry.cds.now jobs.now)) }
+    {
+        let mut made = 0;
+        for (i, job) in jobs.iter().enumerate() {
+            let end = self.opened(*job).scan(made, out);
+            counts[i] = end - made;
+            made = end;
+        }
+        made
+    }
 }
 
 // Where a whole number of thirty-two bytes ends, if the rows go on so far: the vectorised test then has no rest to do byte by byte.
@@ -154,120 +191,16 @@ fn widened(columns: usize, first: usize, end: usize) -> usize
     }
 }
 
-// 9, or as many entries more as a stretch shows.
-fn counted(cdm: &[u8], cds: &[u8], out: &mut [u8], state: Intake, job: Job) -> Intake
-    requires { Judged cdm.now cds.now job × (state.made ≤ room_of out.old) }
-    ensures { (result ≡ counted (room_of out.old) (length (list_for cdm.now cds.now job)) state) × (out.new ≡ out.old) }
+// Whether as many entries have room as all stretches have columns.
+fn room_for_columns(jobs: &[Job], room: usize) -> bool
+    ensures { result ≡ leb (columns_of jobs.now) room }
 {
-    let first = job.first;
-    let end = first + job.length;
-    let n = read::count(&cdm[first..end], &cds[first..end], job.opening, out);
-    if out.len() / ENTRY_BYTES - state.made < n {
-        done(Outcome::Refused(9, Detail::Alone))
-    } else {
-        add(state, n)
+    let mut left = room;
+    for job in jobs {
+        if left < job.length {
+            return false;
+        }
+        left -= job.length;
     }
-}
-
-// The list of a stretch behind those before it, and its count.
-fn written(
-    cdm: &[u8],
-    cds: &[u8],
-    out: &mut [u8],
-    counts: &mut [usize],
-    state: Intake,
-    job: Job,
-) -> Intake
-    requires { Judged cdm.now cds.now job × (state.made ≤ room_of out.old) × (state.at < length counts.old) }
-    ensures { (result ≡ more (length (list_for cdm.now cds.now job)) state) × (out.new ≡ kept_all out.old state.made (list_for cdm.now cds.now job)) × (counts.new ≡ set counts.old state.at (length (list_for cdm.now cds.now job))) }
-{
-    let first = job.first;
-    let end = first + job.length;
-    let made = read::scan(
-        &cdm[first..end],
-        &cds[first..end],
-        job.opening,
-        state.made,
-        out,
-    );
-    let n = made - state.made;
-    let at = state.at;
-    counts[at] = n;
-    add(state, n)
-}
-
-// On to the next job, or behind the last one to the next pass.
-fn next(state: Intake, jobs: usize) -> Intake
-    requires { (state.pass ≡ 0 → ⊥) → state.at + 1 < 2 ^ 64 }
-    ensures { result ≡ following jobs state }
-{
-    if state.pass == DONE {
-        return state;
-    }
-    if state.at + 1 < jobs {
-        go(state.pass, state.at + 1, state.made, state.crowded)
-    } else {
-        pass_over(state)
-    }
-}
-
-// What follows a pass: the entries are counted only where there is less room than columns.
-fn pass_over(state: Intake) -> Intake
-    ensures { result ≡ behind state }
-{
-    if state.pass == PLACING {
-        start(JUDGING, state.crowded)
-    } else if state.pass == WRITING {
-        done(Outcome::Made(state.made))
-    } else if state.pass == JUDGING {
-        let crowded = state.crowded;
-        start(if crowded { COUNTING } else { WRITING }, false)
-    } else {
-        start(WRITING, false)
-    }
-}
-
-fn start(pass: u8, crowded: bool) -> Intake
-    ensures { result ≡ started pass crowded }
-{
-    go(pass, 0, 0, crowded)
-}
-
-// Each state is made anew, so that no unmade outcome is carried from turn to turn.
-fn go(pass: u8, at: usize, made: usize, crowded: bool) -> Intake
-    ensures { result ≡ going pass at made crowded }
-{
-    Intake {
-        pass: pass,
-        at: at,
-        made: made,
-        crowded: crowded,
-        outcome: Outcome::Made(0),
-    }
-}
-
-fn done(outcome: Outcome) -> Intake
-    ensures { result ≡ over outcome }
-{
-    Intake {
-        pass: DONE,
-        at: 0,
-        made: 0,
-        crowded: false,
-        outcome: outcome,
-    }
-}
-
-// Refused by this number, at this job.
-fn stop(number: u8, state: Intake) -> Intake
-    ensures { result ≡ over (Refused number (OfJob state.at)) }
-{
-    done(Outcome::Refused(number, Detail::OfJob(state.at)))
-}
-
-fn add(state: Intake, n: usize) -> Intake
-    requires { state.made + n < 2 ^ 64 }
-    ensures { result ≡ more n state }
-{
-    go(state.pass, state.at, state.made + n, state.crowded)
+    true
 }

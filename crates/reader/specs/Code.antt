@@ -1,158 +1,95 @@
 -- What the code's state is to protocol's reader, for the contracts of this crate: nothing here is needed to read what read promises.
 -- Every value of the code's types is some state of the definitions, so no contract asks anything of a state.
-use Rattle.std.specs.Prelude.{◌≡◌, Bool, cond, ℕ, suc, ◌+◌, ◌-◌, ◌%◌, ◌^◌, ◌<◌, min}
-use Rattle.std.proofs.Math.Option.{Option, none, some}
-use Rattle.protocol.specs.Limits.{id_count, lock_first, lock_last, address_count, command_count, execute_addressed}
-use Rattle.protocol.specs.Bits.{bit_of}
+use Rattle.std.specs.Prelude.{cond, ℕ, suc, ◌%◌, min, Option, Some, None}
+use Rattle.std.proofs.Math.Option as Math
+use Rattle.std.proofs.Math.Option.{none, some}
+use Rattle.protocol.specs.Limits.{lock_last, execute_addressed}
 use Rattle.protocol.specs.Rest.{Timed, power, rest, frame, framed}
-use Rattle.protocol.specs.Machine.{Turn}
 use Rattle.protocol.specs.Entries as entries
 use Rattle.protocol.specs.Entries.{Place, onward}
 use Rattle.protocol.specs.Reader as protocol
-use Rattle.protocol.specs.Reader.{ones, upto, mixed, deaf, locks, head, ask_r, ask_w, byte_s, reads, writes, ask_p, acknowledge, ask_ex, Look, begun, Step, stepped, step}
-use Rattle.machine.specs.Zeros.{timed, judged_at}
+use Rattle.protocol.specs.Reader.{ones, upto, mixed, deaf, locks, head, ask_r, ask_w, byte_s, reads, writes, ask_p, acknowledge, ask_ex, Look, Step}
+use Rattle.kinds.specs.declared.Kind.{Kind}
+use Rattle.kinds.specs.Kinds.{kind_by}
+use Rattle.machine.specs.Zeros.{timed}
+use Rattle.reader.specs.declared.Locks as code
+use Rattle.reader.specs.declared.Locks.TheVariants.{Ones, Upto, Mixed}
 use Rattle.reader.specs.declared.Phase.{Phase}
-use Rattle.reader.specs.declared.Phase.TheVariants.{Power, Rest, Deaf, Ones, Upto, Mixed, Head, AskR, AskW, ByteS, Reads, Writes, AskP, Acknowledge, AskEX}
-use Rattle.reader.specs.declared.Body.{Body}
+use Rattle.reader.specs.declared.Phase.TheVariants.{Deaf, Locks, Head, AskR, AskW, ByteS, Reads, Writes, AskP, Acknowledge, AskEX}
+use Rattle.reader.specs.declared.Form.{Form}
+use Rattle.reader.specs.declared.Frame.{Frame}
+use Rattle.reader.specs.declared.Form.TheVariants as Forms
+use Rattle.reader.specs.declared.Form.TheVariants.{Power, Rest}
 use Rattle.reader.specs.declared.Reader.{Reader}
 use Rattle.reader.specs.declared.Event.{Event}
+use Rattle.reader.specs.declared.Turn.{Turn}
 use Rattle.reader.specs.declared.Stepped.{Stepped}
 
--- The ID as protocol's reader has it; the bound holds of every value that a step stores ..
-abbrev pub id_of : Body → ℕ
-id_of b = b.id % id_count
+-- What the lock columns showed.
+abbrev pub locks_of : code.Locks → protocol.Locks
+locks_of Ones = ones
+locks_of (Upto n) = upto n
+locks_of Mixed = mixed
 
--- .. and the address.
-abbrev pub address_of : Body → ℕ
-address_of b = b.address % address_count
+-- A phase with what is remembered beside it; no lock column is past IDL8's, and no answer to a command past the last ID's.
+abbrev pub phase_by : Phase → Frame → protocol.Phase
+phase_by Deaf f = deaf
+phase_by Locks f = locks (min f.column lock_last) f.word (locks_of f.seen)
+phase_by Head f = head f.column f.word f.lock
+phase_by AskR f = ask_r f.id f.address f.lock
+phase_by AskW f = ask_w f.id f.address f.lock f.r f.answered
+phase_by ByteS f = byte_s f.write f.id f.address f.nth f.unconfirmed
+phase_by Reads f = reads f.id f.address f.nth f.left f.word
+phase_by Writes f = writes f.id f.address f.nth f.left f.word f.echoed
+phase_by AskP f = ask_p f.write f.id f.address f.nth
+phase_by Acknowledge f = acknowledge (f.column % execute_addressed) f.ids f.cmd f.lock f.word f.fitting
+phase_by AskEX f = ask_ex f.ids f.cmd f.fitting
 
--- A lock value is 9 at most; any bound above it would do.
-abbrev pub lock_bound : ℕ
-lock_bound = 16
+-- Where in a frame the reader is.
+abbrev pub phase_of : Frame → protocol.Phase
+phase_of f = phase_by f.phase f
 
--- The lock value.
-abbrev pub lock_of : Body → ℕ
-lock_of b = b.count % lock_bound
+-- A form with no zeros counted ..
+abbrev pub form_by : Form → Frame → Timed protocol.Phase
+form_by Power f = power 0
+form_by Rest f = rest
+form_by Forms.Frame f = frame 0 (phase_of f)
 
--- The header's column that a body is at, up to the last of the locks ..
-abbrev pub column_of : Body → ℕ
-column_of b = min b.place (lock_last - 1) + 1
-
--- .. and, once a lock was 0, by the lock columns.
-abbrev pub lock_column : Body → ℕ
-lock_column b = lock_first + min b.place id_count
-
--- A command's IDS ..
-abbrev pub ids_of : Body → ℕ
-ids_of b = b.asked % 2 ^ id_count
-
--- .. its CMD ..
-abbrev pub cmd_of : Body → ℕ
-cmd_of b = b.id % command_count
-
--- .. and the column after its S, up to EX.
-abbrev pub command_column : Body → ℕ
-command_column b = b.place % execute_addressed
-
--- What a phase is with its numbers, no zeros counted ..
-abbrev pub form_by : Phase → Body → Timed protocol.Phase
-form_by Power b = power 0
-form_by Rest b = rest
-form_by Deaf b = frame 0 deaf
-form_by Ones b = frame 0 (locks (column_of b) b.word ones)
-form_by Upto b = frame 0 (locks (lock_column b) b.word (upto (lock_of b)))
-form_by Mixed b = frame 0 (locks (lock_column b) b.word mixed)
-form_by Head b = frame 0 (head (b.place + 1) b.word (lock_of b))
-form_by AskR b = frame 0 (ask_r (id_of b) (address_of b) (lock_of b))
-form_by AskW b = frame 0 (ask_w (id_of b) (address_of b) (lock_of b) (bit_of b.asked) (bit_of b.answered))
-form_by ByteS b = frame 0 (byte_s (bit_of b.asked) (id_of b) (address_of b) b.count (bit_of b.answered))
-form_by Reads b = frame 0 (reads (id_of b) (address_of b) b.count b.place b.word)
-form_by Writes b = frame 0 (writes (id_of b) (address_of b) b.count b.place b.word (bit_of b.answered))
-form_by AskP b = frame 0 (ask_p (bit_of b.asked) (id_of b) (address_of b) b.count)
-form_by Acknowledge b = frame 0 (acknowledge (command_column b) (ids_of b) (cmd_of b) (lock_of b) b.word (bit_of b.answered))
-form_by AskEX b = frame 0 (ask_ex (ids_of b) (cmd_of b) (bit_of b.answered))
-
--- .. with as many zeros in a row as it saw just now ..
-abbrev pub state_by : Phase → (zeros : ℕ) → Body → Timed protocol.Phase
-state_by phase zeros b = timed zeros (form_by phase b)
-
--- .. and the state of a reader.
+-- .. and the state of a reader, with as many zeros in a row as it saw just now.
 unfoldable pub state_of : Reader → Timed protocol.Phase
-state_of r = state_by r.phase r.zeros r.body
+state_of r = timed r.zeros (form_by r.form r.frame)
 
 -- Where in the row it stands, at a column: out of a frame the S that it holds does not matter.
-abbrev pub place_by : Timed protocol.Phase → (start column : ℕ) → Place
-place_by s start column = record { column = column; start = cond (framed s) start column }
-
 abbrev pub place_of : Reader → (column : ℕ) → Place
-place_of r column = place_by (state_of r) r.body.start column
+place_of r column = record { column = column; start = cond (framed (state_of r)) r.start column }
 
--- An event by its fields; kind 0 is none.
-abbrev pub said : (kind id address value : ℕ) → Event
+-- An event by its fields ..
+abbrev pub said : Kind → (id address value : ℕ) → Event
 said kind id address value = record { kind = kind; id = id; address = address; value = value }
 
--- No event.
-abbrev pub nothing : Event
-nothing = said 0 0 0 0
+-- .. as protocol has it ..
+abbrev pub event_of : Event → entries.Event
+event_of e = record { kind = kind_by e.kind; id = e.id; address = e.address; value = e.value }
 
--- The event of a frame's end.
-abbrev pub ending : Event
-ending = said (entries.number entries.Kind.end) 0 0 0
+-- .. or none.
+abbrev pub says_of : Option Event → Math.Option entries.Event
+says_of None = none
+says_of (Some e) = some (event_of e)
 
--- An event of protocol's, or none, as the code has it.
-abbrev pub event_of : Option entries.Event → Event
-event_of none = nothing
-event_of (some e) = said (entries.number e.kind) e.id e.address e.value
+-- What a column makes of a frame.
+abbrev pub turn_of : Turn → Look
+turn_of t = record { next = phase_of t.next; says = says_of t.says }
 
--- Every field is a byte.
-abbrev pub IsSmall : Event → Type 0
-IsSmall e = (e.kind < 256) × (e.id < 256) × (e.address < 256) × (e.value < 256)
-
--- What a phase makes of a column, with the event as the code has it: of its parts ..
-abbrev pub seen_by : protocol.Phase → Event → Turn protocol.Phase Event
-seen_by p e = record { next = p; says = e }
-
--- .. and of protocol's look.
-abbrev pub seen : Look → Turn protocol.Phase Event
-seen l = seen_by l.next (event_of l.says)
-
--- What a step makes of a state, with the event as the code has it: ..
+-- What a step makes of a state: ..
 pub record Moved : Type 0 where
   pub state : Timed protocol.Phase
   pub place : Place
-  pub event : Event
+  pub says : Math.Option entries.Event
 
 -- .. protocol's step at a place ..
 unfoldable pub moved : Step → Place → Moved
-moved s p = record { state = s.state; place = onward s.state p; event = event_of s.says }
+moved s p = record { state = s.state; place = onward s.state p; says = s.says }
 
 -- .. and the step that the code made in a column.
 unfoldable pub after : (column : ℕ) → Stepped → Moved
-after column r = record { state = state_of r.next; place = place_of r.next (suc column); event = r.event }
-
--- A step of its parts: every field of its event is a byte.
-pub record Made (phase : Phase) (zeros : ℕ) (b : Body) (e : Event) (r : Stepped) : Type 0 where
-  pub made : r ≡ record { next = record { phase = phase; zeros = zeros; body = b }; event = e }
-  pub bytes : IsSmall e
-
--- What a phase's function promises, of a column that is not the fourteenth zero: at rest it has to know which ..
-pub record MeetsAt (column : ℕ) (phase : Phase) (zeros : ℕ) (b : Body) (m x : Bool) (r : Stepped) : Type 0 where
-  pub meets :
-      after column r
-      ≡ moved (stepped (judged_at begun (state_by phase zeros b) m) m x) (place_by (state_by phase zeros b) b.start column)
-  pub bytes : IsSmall r.event
-
--- .. and in a frame any will do ..
-abbrev pub Meets : Phase → (zeros : ℕ) → Body → (m x : Bool) → Stepped → Type 0
-Meets phase zeros b m x r = (column : ℕ) → MeetsAt column phase zeros b m x r
-
--- .. and the event that the fourteenth gives.
-abbrev pub ended : Timed protocol.Phase → Event
-ended (power z) = nothing
-ended rest = nothing
-ended (frame z p) = ending
-
--- What step promises at a place: protocol's step.
-pub record Steps (s : Timed protocol.Phase) (p : Place) (m x : Bool) (r : Stepped) : Type 0 where
-  pub meets : after p.column r ≡ moved (step s m x) p
-  pub bytes : IsSmall r.event
+after column r = record { state = state_of r.next; place = place_of r.next (suc column); says = says_of r.event }

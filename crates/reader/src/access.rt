@@ -1,92 +1,76 @@
 // R and W, and what their answers say of the addressed slave.
-ghost use Rattle.std.specs.Prelude.{◌≡◌, false, ◌+◌, ◌*◌, ◌≤◌, ◌<◌};
-ghost use Rattle.std.specs.Bool.{beq};
-ghost use Rattle.protocol.specs.Bits.{num, bit_of};
-ghost use Rattle.reader.specs.Code.{id_of, lock_of, Meets};
+#![tactic(auto, unfolding(protocol::specs::Reader::look, protocol::specs::Reader::asked))]
 
-use crate::made::{LOCK_BOUND, gives, go, number};
-use crate::{Body, Phase, Stepped};
-use machine::{ADDRESSES, IDS};
+ghost use Rattle.std.specs.Prelude.{◌≡◌};
+ghost use Rattle.protocol.specs.Reader.{acceptance, silence, odd_answer, look};
+ghost use Rattle.reader.specs.Code.{phase_by, turn_of};
+
+use crate::made::{gives, go};
+use crate::{Column, Frame, Phase, Turn};
+use kinds::Kind;
 
 // R, with its answer, waits for W.
-pub fn ask_r(zeros: u64, body: Body, m: bool, x: bool) -> Stepped
-    ensures { Meets Phase.AskR zeros body m x result }
+pub fn ask_r(frame: Frame, r: Column) -> Turn
+    ensures { turn_of result ≡ look (phase_by Phase.AskR frame) r.cdm r.cds }
 {
-    let r = number(m);
-    let y = number(x);
-    let mut n = body;
-    n.asked = r;
-    n.answered = y;
-    go(Phase::AskW, zeros, n)
+    go(Frame {
+        phase: Phase::AskW,
+        r: r.cdm,
+        answered: r.cds,
+        ..frame
+    })
 }
 
 // pair: "W's column, R = W".
-pub fn ask_w(zeros: u64, body: Body, m: bool, x: bool) -> Stepped
-    ensures { Meets Phase.AskW zeros body m x result }
+pub fn ask_w(frame: Frame, w: Column) -> Turn
+    ensures { turn_of result ≡ look (phase_by Phase.AskW frame) w.cdm w.cds }
 {
-    let r = body.asked == 1;
-    let id = body.id % IDS;
-    let address = body.address % ADDRESSES;
-    if r == m {
-        gives(Phase::Deaf, zeros, body, kinds::PAIR, id, address, 0)
-    } else if id < body.count % LOCK_BOUND {
-        accepted(zeros, body, m, x)
+    if frame.r == w.cdm {
+        gives(frame.access(Kind::Pair, 0), frame.at(Phase::Deaf))
+    } else if frame.id < frame.lock {
+        accepted(frame, w)
     } else {
-        unlocked(zeros, body, m, x)
+        unlocked(frame, w)
     }
 }
 
 // A locked ID: R and W repeated, or refused: "R repeated, W inverted".
-fn accepted(zeros: u64, body: Body, m: bool, x: bool) -> Stepped
-    requires { (beq (bit_of body.asked) m ≡ false) × (id_of body < lock_of body) }
-    ensures { Meets Phase.AskW zeros body m x result }
+fn accepted(frame: Frame, w: Column) -> Turn
+    ensures { turn_of result ≡ acceptance frame.id frame.address frame.r frame.answered w.cdm w.cds }
 {
-    let id = body.id % IDS;
-    let address = body.address % ADDRESSES;
-    let r = body.asked == 1;
-    let y = body.answered == 1;
-    let w = number(m);
-    if y == r {
-        if x == m {
-            let mut n = body;
-            n.asked = w;
-            n.answered = 0;
-            n.count = 1;
-            go(Phase::ByteS, zeros, n)
-        } else {
-            gives(Phase::Deaf, zeros, body, kinds::REFUSED, id, address, w)
-        }
+    if frame.answered != frame.r {
+        odd(frame, w)
+    } else if w.cds == w.cdm {
+        go(Frame {
+            phase: Phase::ByteS,
+            write: w.cdm,
+            nth: 1,
+            unconfirmed: false,
+            ..frame
+        })
     } else {
         gives(
-            Phase::Deaf,
-            zeros,
-            body,
-            kinds::ODD,
-            id,
-            address,
-            both(y, x),
+            frame.access(Kind::Refused, u8::from(w.cdm)),
+            frame.at(Phase::Deaf),
         )
     }
 }
 
 // absent: "answered 0 0, ID not locked".
-fn unlocked(zeros: u64, body: Body, m: bool, x: bool) -> Stepped
-    requires { (beq (bit_of body.asked) m ≡ false) × (lock_of body ≤ id_of body) }
-    ensures { Meets Phase.AskW zeros body m x result }
+fn unlocked(frame: Frame, w: Column) -> Turn
+    ensures { turn_of result ≡ silence frame.id frame.address frame.answered w.cds }
 {
-    let id = body.id % IDS;
-    let address = body.address % ADDRESSES;
-    let value = both(body.answered == 1, x);
-    if value == 0 {
-        gives(Phase::Deaf, zeros, body, kinds::ABSENT, id, address, 0)
+    if frame.answered || w.cds {
+        odd(frame, w)
     } else {
-        gives(Phase::Deaf, zeros, body, kinds::ODD, id, address, value)
+        gives(frame.access(Kind::Absent, 0), frame.at(Phase::Deaf))
     }
 }
 
 // odd: "2 x answered R + answered W".
-fn both(y: bool, x: bool) -> u64
-    ensures { (result ≡ 2 * num y + num x) × (result < 4) }
+fn odd(frame: Frame, w: Column) -> Turn
+    ensures { turn_of result ≡ odd_answer frame.id frame.address frame.answered w.cds }
 {
-    2 * number(y) + number(x)
+    let value = 2 * u8::from(frame.answered) + u8::from(w.cds);
+    gives(frame.access(Kind::Odd, value), frame.at(Phase::Deaf))
 }

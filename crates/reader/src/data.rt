@@ -1,123 +1,147 @@
 // A byte of a register access: its S, its twelve bits, its P.
-ghost use Rattle.std.specs.Prelude.{◌≡◌, ◌&&◌};
-ghost use Rattle.std.specs.Bool.{beq};
-ghost use Rattle.protocol.specs.Bits.{bit_of};
-ghost use Rattle.reader.specs.Code.{Meets};
+#![tactic(auto, unfolding(protocol::specs::Reader::look, protocol::specs::Division::byte_of))]
+
+ghost use Rattle.std.specs.Prelude.{◌≡◌, Bool};
+ghost use Rattle.protocol.specs.Division.{byte_of};
+ghost use Rattle.protocol.specs.Reader.{read_kind, write_kind, look};
+ghost use Rattle.kinds.specs.Kinds.{kind_by};
+ghost use Rattle.reader.specs.Code.{phase_by, turn_of};
 
 use crate::made::{gives, go};
-use crate::{Body, Phase, Stepped};
-use machine::{ADDRESSES, BYTES, CHECKS, IDS, TOP_BIT};
+use crate::{Column, Frame, Phase, Turn};
+use kinds::Kind;
+use machine::{ADDRESSES, BYTES, CHECKS, TOP_BIT};
 
 // odd: "P answered 0 at address 127".
-const LAST_ADDRESS: u64 = ADDRESSES - 1;
+const LAST_ADDRESS: u8 = (ADDRESSES - 1) as u8;
 
 // Request 03: "The reader lists `mute` only when the master gives up unconfirmed after a 1, in the column of that 0."
-pub fn byte_s(zeros: u64, body: Body, m: bool, x: bool) -> Stepped
-    ensures { Meets Phase.ByteS zeros body m x result }
+pub fn byte_s(frame: Frame, s: Column) -> Turn
+    ensures { turn_of result ≡ look (phase_by Phase.ByteS frame) s.cdm s.cds }
 {
-    let id = body.id % IDS;
-    let address = body.address % ADDRESSES;
-    let mut n = body;
-    n.place = TOP_BIT;
-    n.word = 0;
-    n.answered = 1;
-    if m {
-        if x {
-            if body.asked == 1 {
-                go(Phase::Writes, zeros, n)
+    if s.cdm {
+        if s.cds {
+            let phase = if frame.write {
+                Phase::Writes
             } else {
-                go(Phase::Reads, zeros, n)
-            }
+                Phase::Reads
+            };
+            go(Frame {
+                phase,
+                left: TOP_BIT,
+                word: 0,
+                echoed: true,
+                ..frame
+            })
         } else {
-            let mut waits = body;
-            waits.answered = 1;
-            go(Phase::ByteS, zeros, waits)
+            go(Frame {
+                phase: Phase::ByteS,
+                unconfirmed: true,
+                ..frame
+            })
         }
-    } else if body.answered == 1 {
-        gives(Phase::Deaf, zeros, n, kinds::MUTE, id, address, 0)
+    } else if frame.unconfirmed {
+        gives(frame.access(Kind::Mute, 0), frame.at(Phase::Deaf))
     } else {
-        go(Phase::Deaf, zeros, n)
+        go(frame.at(Phase::Deaf))
+    }
+}
+
+pub fn reads(frame: Frame, cds: bool) -> Turn
+    ensures { (m : Bool) → turn_of result ≡ look (phase_by Phase.Reads frame) m cds }
+{
+    let word = checkbits::pushed(frame.word, cds);
+    if frame.left == 0 {
+        let event = frame.access(read_kind(word), byte_of(word));
+        gives(
+            event,
+            Frame {
+                phase: Phase::AskP,
+                write: false,
+                ..frame
+            },
+        )
+    } else {
+        go(Frame {
+            phase: Phase::Reads,
+            left: frame.left - 1,
+            word,
+            ..frame
+        })
+    }
+}
+
+pub fn writes(frame: Frame, bits: Column) -> Turn
+    ensures { turn_of result ≡ look (phase_by Phase.Writes frame) bits.cdm bits.cds }
+{
+    let word = checkbits::pushed(frame.word, bits.cdm);
+    let echoed = frame.echoed && bits.cds == bits.cdm;
+    if frame.left == 0 {
+        let event = frame.access(write_kind(word, echoed), byte_of(word));
+        gives(
+            event,
+            Frame {
+                phase: Phase::AskP,
+                write: true,
+                ..frame
+            },
+        )
+    } else {
+        go(Frame {
+            phase: Phase::Writes,
+            left: frame.left - 1,
+            word,
+            echoed,
+            ..frame
+        })
     }
 }
 
 // read, readbad: "last check column of a read, CDS check right, wrong".
-pub fn reads(zeros: u64, body: Body, m: bool, x: bool) -> Stepped
-    ensures { Meets Phase.Reads zeros body m x result }
+fn read_kind(word: u64) -> Kind
+    ensures { kind_by result ≡ read_kind word }
 {
-    let word = checkbits::pushed(body.word, x);
-    let value = word / CHECKS % 256;
-    let id = body.id % IDS;
-    let address = body.address % ADDRESSES;
-    let mut n = body;
-    if body.place == 0 {
-        n.asked = 0;
-        if checkbits::byte_fits(word) {
-            gives(Phase::AskP, zeros, n, kinds::READ, id, address, value)
-        } else {
-            gives(Phase::AskP, zeros, n, kinds::READBAD, id, address, value)
-        }
+    if checkbits::byte_fits(word) {
+        Kind::Read
     } else {
-        n.place = body.place - 1;
-        n.word = word;
-        go(Phase::Reads, zeros, n)
+        Kind::Readbad
     }
 }
 
 // written, writebad: "CDM check right, wrong". echo: "as 11, but the echo differs in some bit".
-pub fn writes(zeros: u64, body: Body, m: bool, x: bool) -> Stepped
-    ensures { Meets Phase.Writes zeros body m x result }
+fn write_kind(word: u64, echoed: bool) -> Kind
+    ensures { kind_by result ≡ write_kind word echoed }
 {
-    let word = checkbits::pushed(body.word, m);
-    let value = word / CHECKS % 256;
-    let same = echoed(body.answered, m, x);
-    let id = body.id % IDS;
-    let address = body.address % ADDRESSES;
-    let mut n = body;
-    if body.place == 0 {
-        n.asked = 1;
-        if checkbits::byte_fits(word) {
-            if same == 1 {
-                gives(Phase::AskP, zeros, n, kinds::WRITTEN, id, address, value)
-            } else {
-                gives(Phase::AskP, zeros, n, kinds::ECHO, id, address, value)
-            }
-        } else {
-            gives(Phase::AskP, zeros, n, kinds::WRITEBAD, id, address, value)
-        }
+    if !checkbits::byte_fits(word) {
+        Kind::Writebad
+    } else if echoed {
+        Kind::Written
     } else {
-        n.place = body.place - 1;
-        n.word = word;
-        n.answered = same;
-        go(Phase::Writes, zeros, n)
+        Kind::Echo
     }
+}
+
+fn byte_of(word: u64) -> u8
+    ensures { result ≡ byte_of word }
+{
+    (word / CHECKS % 256) as u8
 }
 
 // closed: "P answered 1". odd: "P answered 0 at address 127 or the 64th byte (value 4)".
-pub fn ask_p(zeros: u64, body: Body, m: bool, x: bool) -> Stepped
-    ensures { Meets Phase.AskP zeros body m x result }
+pub fn ask_p(frame: Frame, cds: bool) -> Turn
+    ensures { (m : Bool) → turn_of result ≡ look (phase_by Phase.AskP frame) m cds }
 {
-    let id = body.id % IDS;
-    let address = body.address % ADDRESSES;
-    if x {
-        gives(Phase::Deaf, zeros, body, kinds::CLOSED, id, address, 0)
-    } else if address < LAST_ADDRESS {
-        if body.count < BYTES {
-            let mut n = body;
-            n.address = address + 1;
-            n.count = body.count + 1;
-            n.answered = 0;
-            go(Phase::ByteS, zeros, n)
-        } else {
-            gives(Phase::Deaf, zeros, body, kinds::ODD, id, address, 4)
-        }
+    if cds {
+        gives(frame.access(Kind::Closed, 0), frame.at(Phase::Deaf))
+    } else if frame.address < LAST_ADDRESS && u64::from(frame.nth) < BYTES {
+        go(Frame {
+            phase: Phase::ByteS,
+            address: frame.address + 1,
+            nth: frame.nth + 1,
+            unconfirmed: false,
+            ..frame
+        })
     } else {
-        gives(Phase::Deaf, zeros, body, kinds::ODD, id, address, 4)
+        gives(frame.access(Kind::Odd, 4), frame.at(Phase::Deaf))
     }
-}
-
-// 1 where every bit so far was echoed, this one too.
-fn echoed(before: u64, m: bool, x: bool) -> u64
-    ensures { bit_of result ≡ bit_of before && beq x m }
-{
-    if x == m { before } else { 0 }
 }

@@ -1,119 +1,127 @@
 // The fifteen columns after S: the locks, answered in nine of them, and the header that the last one completes.
-ghost use Rattle.std.specs.Prelude.{◌<◌};
-ghost use Rattle.reader.specs.Code.{Meets};
+#![tactic(auto, unfolding(protocol::specs::Reader::look, protocol::specs::Reader::seen, protocol::specs::Reader::locked, protocol::specs::Reader::headed, protocol::specs::Header::header, protocol::specs::Bits::bit))]
 
-use crate::made::{LOCK_BOUND, gives, go};
-use crate::{Body, Phase, Stepped};
+ghost use Rattle.std.specs.Prelude.{◌≡◌, Bool, true, ◌≤◌};
+ghost use Rattle.protocol.specs.Limits.{lock_last};
+ghost use Rattle.protocol.specs.Division.{header_bits, fits};
+ghost use Rattle.protocol.specs.Header.{header};
+ghost use Rattle.protocol.specs.Reader.{seen_at, locked, headed, look};
+ghost use Rattle.reader.specs.Code.{locks_of, phase_by, turn_of};
+
+use crate::made::{gives, go};
+use crate::{Column, Event, Frame, Locks, Phase, Turn};
+use kinds::Kind;
 use machine::{ADDRESSES, CHECKS, COMMANDS, CTS, HEADER, IDS, LOCK_FIRST, LOCK_LAST};
 
-// The header's columns before IDL0's, before IDL8's and before its own last.
-const IDL0: u64 = LOCK_FIRST - 1;
+// lock: "or 9 if IDL8 is 1 after eight".
+const PAST_EIGHT: u8 = IDS as u8 + 1;
 
-const IDL8: u64 = LOCK_LAST - 1;
-
-const LAST: u64 = HEADER - 1;
-// lock: "9 if IDL8 is 1 after eight".
-const PAST_EIGHT: u64 = IDS + 1;
-
-// Before IDL0, or ones alone so far. lock: "or 9 if IDL8 is 1 after eight".
-pub fn ones(zeros: u64, body: Body, m: bool, x: bool) -> Stepped
-    ensures { Meets Phase.Ones zeros body m x result }
+pub fn locks(frame: Frame, bits: Column) -> Turn
+    ensures { turn_of result ≡ look (phase_by Phase.Locks frame) bits.cdm bits.cds }
 {
-    let word = checkbits::pushed(body.word, m);
-    let mut n = body;
-    n.word = word;
-    if body.place < IDL0 {
-        n.place = body.place + 1;
-        go(Phase::Ones, zeros, n)
-    } else if body.place < IDL8 {
-        n.place = body.place + 1;
-        if x {
-            go(Phase::Ones, zeros, n)
-        } else {
-            let idl = body.place - IDL0;
-            n.place = idl + 1;
-            n.count = idl;
-            go(Phase::Upto, zeros, n)
-        }
+    let column = frame.column.min(LOCK_LAST);
+    let word = checkbits::pushed(frame.word, bits.cdm);
+    let seen = seen_at(column, frame.seen, bits.cds);
+    if column < LOCK_LAST {
+        go(Frame {
+            phase: Phase::Locks,
+            column: column + 1,
+            word,
+            seen,
+            ..frame
+        })
     } else {
-        n.place = LOCK_LAST;
-        if x {
-            n.count = PAST_EIGHT;
-            gives(Phase::Head, zeros, n, kinds::LOCK, 0, 0, PAST_EIGHT)
-        } else {
-            n.count = IDS;
-            gives(Phase::Head, zeros, n, kinds::LOCK, 0, 0, IDS)
-        }
+        locked(Frame {
+            word,
+            seen,
+            ..frame
+        })
     }
 }
 
-// Locks: ones and then zeros. lock: "how many of IDL0..7 are 1".
-pub fn upto(zeros: u64, body: Body, m: bool, x: bool) -> Stepped
-    ensures { Meets Phase.Upto zeros body m x result }
+// A column before IDL0's shows no lock.
+fn seen_at(column: u64, seen: Locks, cds: bool) -> Locks
+    requires { column ≤ lock_last }
+    ensures { locks_of result ≡ seen_at column (locks_of seen) cds }
 {
-    let word = checkbits::pushed(body.word, m);
-    let lock = body.count % LOCK_BOUND;
-    let mut n = body;
-    n.word = word;
-    if body.place < IDS {
-        n.place = body.place + 1;
-        if x {
-            go(Phase::Mixed, zeros, n)
-        } else {
-            go(Phase::Upto, zeros, n)
-        }
-    } else {
-        n.place = LOCK_LAST;
-        if x {
-            gives(Phase::Deaf, zeros, n, kinds::LOCKODD, 0, 0, 0)
-        } else {
-            gives(Phase::Head, zeros, n, kinds::LOCK, 0, 0, lock)
-        }
+    if column < LOCK_FIRST {
+        return seen;
+    }
+    match (seen, cds) {
+        (Locks::Ones, true) => Locks::Ones,
+        (Locks::Ones, false) => Locks::Upto((column - LOCK_FIRST) as u8),
+        (Locks::Upto(_), true) => Locks::Mixed,
+        (Locks::Upto(n), false) => Locks::Upto(n),
+        (Locks::Mixed, _) => Locks::Mixed,
     }
 }
 
-// lockodd: "any other lock pattern; deaf".
-pub fn mixed(zeros: u64, body: Body, m: bool, x: bool) -> Stepped
-    ensures { Meets Phase.Mixed zeros body m x result }
+// lock: "value = how many of IDL0..7 are 1, or 9 if IDL8 is 1 after eight". lockodd: "any other lock pattern; deaf".
+fn locked(frame: Frame) -> Turn
+    ensures { turn_of result ≡ locked lock_last frame.word (locks_of frame.seen) }
 {
-    if body.place < IDS {
-        let word = checkbits::pushed(body.word, m);
-        let mut n = body;
-        n.word = word;
-        n.place = body.place + 1;
-        go(Phase::Mixed, zeros, n)
-    } else {
-        gives(Phase::Deaf, zeros, body, kinds::LOCKODD, 0, 0, 0)
-    }
+    let lock = match frame.seen {
+        Locks::Ones => PAST_EIGHT,
+        Locks::Upto(n) => n,
+        Locks::Mixed => return gives(Event::plain(Kind::Lockodd, 0), frame.at(Phase::Deaf)),
+    };
+    gives(
+        Event::plain(Kind::Lock, lock),
+        Frame {
+            phase: Phase::Head,
+            column: LOCK_LAST + 1,
+            lock,
+            ..frame
+        },
+    )
 }
 
 // badhead, command: "last header column".
-pub fn head(zeros: u64, body: Body, m: bool, x: bool) -> Stepped
-    ensures { Meets Phase.Head zeros body m x result }
+pub fn head(frame: Frame, cdm: bool) -> Turn
+    ensures { (x : Bool) → turn_of result ≡ look (phase_by Phase.Head frame) cdm x }
 {
-    let word = checkbits::pushed(body.word, m);
-    let mut n = body;
-    if body.place < LAST {
-        n.word = word;
-        n.place = body.place + 1;
-        go(Phase::Head, zeros, n)
+    let word = checkbits::pushed(frame.word, cdm);
+    if frame.column < HEADER {
+        go(Frame {
+            phase: Phase::Head,
+            column: frame.column + 1,
+            word,
+            ..frame
+        })
     } else if checkbits::header_fits(word) {
-        let v = word / CHECKS;
-        if v / CTS % 2 == 1 {
-            n.id = v / ADDRESSES % IDS;
-            n.address = v % ADDRESSES;
-            go(Phase::AskR, zeros, n)
-        } else {
-            let ids = v / COMMANDS % 256;
-            let cmd = v % COMMANDS;
-            n.asked = ids;
-            n.id = cmd;
-            n.place = 0;
-            n.word = 0;
-            n.answered = 1;
-            gives(Phase::Acknowledge, zeros, n, kinds::COMMAND, cmd, 0, ids)
-        }
+        headed(Frame { word, ..frame })
     } else {
-        gives(Phase::Deaf, zeros, n, kinds::BADHEAD, 0, 0, 0)
+        gives(Event::plain(Kind::Badhead, 0), frame.at(Phase::Deaf))
+    }
+}
+
+// A header whose check is right.
+fn headed(frame: Frame) -> Turn
+    requires { fits header_bits frame.word ≡ true }
+    ensures { turn_of result ≡ headed (header frame.word) frame.lock }
+{
+    let v = frame.word / CHECKS;
+    if v / CTS % 2 == 1 {
+        let id = (v / ADDRESSES % IDS) as u8;
+        let address = (v % ADDRESSES) as u8;
+        go(Frame {
+            phase: Phase::AskR,
+            id,
+            address,
+            ..frame
+        })
+    } else {
+        let ids = (v / COMMANDS % 256) as u8;
+        let cmd = (v % COMMANDS) as u8;
+        let next = Frame {
+            phase: Phase::Acknowledge,
+            ids,
+            cmd,
+            column: 0,
+            word: 0,
+            fitting: true,
+            ..frame
+        };
+        gives(next.command(Kind::Command, ids), next)
     }
 }

@@ -1,33 +1,47 @@
-// The reader's step (01, Entries): one column in, the next state and perhaps an event out. Phase and Body say where in a frame the
-// reader is; what a field holds in a phase that does not use it never matters.
+// The reader's step (01, Entries): one column in, the next state and perhaps an event out.
 #![tactic(auto)]
 
 mod access;
-mod command;
+mod commands;
 mod data;
 mod header;
 mod made;
 
-ghost use Rattle.std.specs.Prelude.{◌≡◌};
+ghost use Rattle.std.specs.Prelude.{◌≡◌, Bool, ℕ};
 ghost use Rattle.protocol.specs.Rest.{power_on};
-ghost use Rattle.reader.specs.Code.{form_by, state_of, place_of, Made, MeetsAt, ended, Steps};
+ghost use Rattle.protocol.specs.Reader.{look, begun, stepped, step};
+ghost use Rattle.machine.specs.Zeros.{judged_at, ended_at};
+ghost use Rattle.reader.specs.Code.{said, says_of, phase_by, phase_of, form_by, turn_of, state_of, place_of, moved, after};
 
 use access::{ask_r, ask_w};
-use command::{acknowledge, ask_ex};
+use commands::{acknowledge, ask_ex};
 use data::{ask_p, byte_s, reads, writes};
-use header::{head, mixed, ones, upto};
+use header::{head, locks};
+use kinds::Kind;
 use machine::REST;
-use made::{go, rests};
+use made::go;
 
-// The order is for the compiler: with Rest near Ones it adds S to one byte of a register, and on idle rows each column waits for the last.
+// Columns: "A column pairs a CDM bit with the CDS bit that answers it".
+#[derive(Clone, Copy)]
+struct Column {
+    cdm: bool,
+    cds: bool,
+}
+
+// What the lock columns showed so far: ones alone, so many ones and then zeros, or any other pattern.
+#[derive(Clone, Copy)]
+pub enum Locks {
+    Ones,
+    Upto(u8),
+    Mixed,
+}
+
+// Where in a frame the reader is.
 #[derive(Clone, Copy)]
 pub enum Phase {
     Deaf,
-    // Up to the last lock column: ones alone so far, ones and then zeros, any other pattern.
-    Ones,
-    Upto,
-    Mixed,
-    // The header columns behind the locks.
+    // Up to the last lock column, and the header columns behind it.
+    Locks,
     Head,
     AskR,
     AskW,
@@ -36,141 +50,251 @@ pub enum Phase {
     Reads,
     Writes,
     AskP,
-    Power,
-    Rest,
     // A command's S and the answers to it; then its EX.
     Acknowledge,
     AskEX,
 }
 
-// Every field is 64 bits wide, a flag 0 or 1, so that each keeps a register of its own.
+// A phase, and beside it what it remembers; what a field holds in a phase that does not use it does not matter. An enum whose phases carry
+// their fields took a third longer a column, and read_all, which scans a stretch twice where the room is exact, longer than plain Rust.
 #[derive(Clone, Copy)]
-pub struct Body {
-    // The column of S, from S on.
-    pub start: usize,
-    // The header's columns before this one, or once a lock was 0 those of the locks; in a byte, the bits after this one; behind a
-    // command's header, its columns before this one.
-    pub place: u64,
-    // The bits so far, the newest lowest.
+pub struct Frame {
+    pub phase: Phase,
+    // The bits so far, the newest lowest, in as wide a number as checkbits collects them.
     pub word: u64,
-    // The lock value up to W, and in a command; then the byte's place in the access.
-    pub count: u64,
-    // In a command, CMD.
-    pub id: u64,
-    pub address: u64,
-    // The master's R; from W on, W; in a command, IDS.
-    pub asked: u64,
-    // The answer to R; at a byte's S, whether a 1 came before it unconfirmed; in a written byte, whether all bits so far were echoed; in
-    // a command, whether all answers so far fit.
-    pub answered: u64,
+    // The column after S, counted from 1, and behind a command's header after its S, from 0.
+    pub column: u64,
+    // Of a byte's bits, how many come after this one.
+    pub left: u64,
+    pub seen: Locks,
+    pub lock: u8,
+    // The register of an access; the byte's place in the access, from 1.
+    pub id: u8,
+    pub address: u8,
+    pub nth: u8,
+    // R and its answer: as one struct of two flags they took a third more time.
+    pub r: bool,
+    pub answered: bool,
+    // W.
+    pub write: bool,
+    // A 1 came at the byte's S and was not confirmed.
+    pub unconfirmed: bool,
+    // Every bit of a written byte so far was echoed.
+    pub echoed: bool,
+    pub ids: u8,
+    pub cmd: u8,
+    // Every answer to a command so far was as it should be.
+    pub fitting: bool,
 }
 
+#[derive(Clone, Copy)]
+pub enum Form {
+    Power,
+    Rest,
+    Frame,
+}
+
+// Inside the form, where it would stand alone in a frame, the frame made idle rows slower than the plain program's.
 #[derive(Clone, Copy)]
 pub struct Reader {
-    pub phase: Phase,
-    // The zeros in a row just now.
+    pub form: Form,
+    // Where in a frame it is; out of one it does not matter.
+    pub frame: Frame,
+    // The zeros in a row just now; at rest they do not matter.
     pub zeros: u64,
-    pub body: Body,
+    // The column of S in a frame; out of one it does not matter.
+    pub start: usize,
 }
 
-// What a column shows; kind 0 is nothing.
+// What a column shows.
 #[derive(Clone, Copy)]
 pub struct Event {
-    pub kind: u64,
-    pub id: u64,
-    pub address: u64,
-    pub value: u64,
+    pub kind: Kind,
+    pub id: u8,
+    pub address: u8,
+    pub value: u8,
 }
 
 #[derive(Clone, Copy)]
 pub struct Stepped {
     pub next: Reader,
-    pub event: Event,
+    pub event: Option<Event>,
 }
 
+impl Event {
+    // An event that names no ID and no address.
+    fn plain(kind: Kind, value: u8) -> Event
+        ensures { result ≡ said kind 0 0 value }
+    {
+        Event {
+            kind,
+            id: 0,
+            address: 0,
+            value,
+        }
+    }
+}
+
+impl Frame {
+    // No lock seen, no header bit.
+    const BEGUN: Frame = Frame {
+        phase: Phase::Locks,
+        word: 0,
+        column: 1,
+        left: 0,
+        seen: Locks::Ones,
+        lock: 0,
+        id: 0,
+        address: 0,
+        nth: 0,
+        r: false,
+        answered: false,
+        write: false,
+        unconfirmed: false,
+        echoed: false,
+        ids: 0,
+        cmd: 0,
+        fitting: false,
+    };
+
+    // The same in another phase.
+    fn at(self, phase: Phase) -> Frame
+        ensures { phase_of result ≡ phase_by phase self }
+    {
+        Frame { phase, ..self }
+    }
+
+    // An event of a register access.
+    fn access(self, kind: Kind, value: u8) -> Event
+        ensures { result ≡ said kind self.id self.address value }
+    {
+        Event {
+            kind,
+            id: self.id,
+            address: self.address,
+            value,
+        }
+    }
+
+    // An event of a command: "id = CMD".
+    fn command(self, kind: Kind, value: u8) -> Event
+        ensures { result ≡ said kind self.cmd 0 value }
+    {
+        Event {
+            kind,
+            id: self.cmd,
+            address: 0,
+            value,
+        }
+    }
+}
+
+#[tactic(auto, unfolding(crate::specs::Code::after, crate::specs::Code::moved, crate::specs::Code::state_of))]
 impl Reader {
     // Rest: "At power-on nobody is at rest".
     pub fn new() -> Reader
         ensures { state_of result ≡ power_on }
     {
-        let body = Body {
-            start: 0,
-            place: 0,
-            word: 0,
-            count: 0,
-            id: 0,
-            address: 0,
-            asked: 0,
-            answered: 0,
-        };
         Reader {
-            phase: Phase::Power,
+            form: Form::Power,
+            frame: Frame::BEGUN,
             zeros: 0,
-            body: body,
+            start: 0,
         }
     }
 
     // "The fourteenth zero is judged before any other meaning of its column".
     pub fn step(self, column: usize, m: bool, x: bool) -> Stepped
-        ensures { Steps (state_of self) (place_of self column) m x result }
+        ensures { after column result ≡ moved (step (state_of self) m x) (place_of self column) }
     {
-        let phase = self.phase;
-        let body = self.body;
-        let zeros = machine::counted(self.zeros, m);
-        if zeros < REST {
-            goes_on(phase, zeros, body, column, m, x)
+        let counted = Reader {
+            zeros: machine::counted(self.zeros, m),
+            ..self
+        };
+        if counted.zeros < REST {
+            counted.goes_on(column, Column { cdm: m, cds: x })
         } else {
-            fourteenth(phase, body)
+            counted.ended()
+        }
+    }
+
+    // end: "the fourteenth zero after a frame was begun".
+    fn ended(self) -> Stepped
+        ensures { (column : ℕ) (m x : Bool) → after column result ≡ moved (stepped (ended_at (form_by self.form self.frame)) m x) (place_of self column) }
+    {
+        let event = match self.form {
+            Form::Frame => Some(Event::plain(Kind::End, 0)),
+            _ => None,
+        };
+        Stepped {
+            next: Reader {
+                form: Form::Rest,
+                ..self
+            },
+            event,
+        }
+    }
+
+    // A column that is no fourteenth zero. Start: "The first 1 after rest is the start bit S".
+    fn goes_on(self, column: usize, bits: Column) -> Stepped
+        ensures { after column result ≡ moved (stepped (judged_at begun (state_of self) bits.cdm) bits.cdm bits.cds) (place_of self column) }
+    {
+        match self.form {
+            Form::Power => Stepped {
+                next: self,
+                event: None,
+            },
+            Form::Rest if bits.cdm => {
+                let next = Reader {
+                    form: Form::Frame,
+                    frame: Frame::BEGUN,
+                    zeros: 0,
+                    start: column,
+                };
+                Stepped { next, event: None }
+            }
+            Form::Rest => Stepped {
+                next: self,
+                event: None,
+            },
+            Form::Frame => {
+                let turn = look(self.frame, bits);
+                let next = Reader {
+                    frame: turn.next,
+                    ..self
+                };
+                Stepped {
+                    next,
+                    event: turn.says,
+                }
+            }
         }
     }
 }
 
-// end: "the fourteenth zero after a frame was begun".
-fn fourteenth(phase: Phase, body: Body) -> Stepped
-    ensures { Made Phase.Rest 0 body (ended (form_by phase body)) result }
-{
-    match phase {
-        Phase::Power => rests(body, kinds::NONE),
-        Phase::Rest => rests(body, kinds::NONE),
-        _ => rests(body, kinds::END),
-    }
+// What a column makes of a frame: the frame behind it, and perhaps an event.
+#[derive(Clone, Copy)]
+struct Turn {
+    next: Frame,
+    says: Option<Event>,
 }
 
-// A column that is no fourteenth zero.
-fn goes_on(phase: Phase, zeros: u64, body: Body, column: usize, m: bool, x: bool) -> Stepped
-    ensures { MeetsAt column phase zeros body m x result }
+// One column of a frame: both go to the function of its phase, as protocol's `look` has them.
+#[tactic(auto, unfolding(protocol::specs::Reader::look))]
+fn look(frame: Frame, bits: Column) -> Turn
+    ensures { turn_of result ≡ look (phase_of frame) bits.cdm bits.cds }
 {
-    match phase {
-        Phase::Power => go(Phase::Power, zeros, body),
-        Phase::Rest => rest(zeros, body, column, m, x),
-        Phase::Deaf => go(Phase::Deaf, zeros, body),
-        Phase::Ones => ones(zeros, body, m, x),
-        Phase::Upto => upto(zeros, body, m, x),
-        Phase::Mixed => mixed(zeros, body, m, x),
-        Phase::Head => head(zeros, body, m, x),
-        Phase::AskR => ask_r(zeros, body, m, x),
-        Phase::AskW => ask_w(zeros, body, m, x),
-        Phase::ByteS => byte_s(zeros, body, m, x),
-        Phase::Reads => reads(zeros, body, m, x),
-        Phase::Writes => writes(zeros, body, m, x),
-        Phase::AskP => ask_p(zeros, body, m, x),
-        Phase::Acknowledge => acknowledge(zeros, body, m, x),
-        Phase::AskEX => ask_ex(zeros, body, m, x),
-    }
-}
-
-// Start: "The first 1 after rest is the start bit S". What `start`, `place` and `word` hold at rest does not matter: all are set in any
-// case, so that the compiler makes no branch of it.
-fn rest(zeros: u64, body: Body, column: usize, m: bool, x: bool) -> Stepped
-    ensures { MeetsAt column Phase.Rest zeros body m x result }
-{
-    let mut n = body;
-    n.start = column;
-    n.place = 0;
-    n.word = 0;
-    if m {
-        go(Phase::Ones, 0, n)
-    } else {
-        go(Phase::Rest, 0, n)
+    match frame.phase {
+        Phase::Deaf => go(frame.at(Phase::Deaf)),
+        Phase::Locks => locks(frame, bits),
+        Phase::Head => head(frame, bits.cdm),
+        Phase::AskR => ask_r(frame, bits),
+        Phase::AskW => ask_w(frame, bits),
+        Phase::ByteS => byte_s(frame, bits),
+        Phase::Reads => reads(frame, bits.cds),
+        Phase::Writes => writes(frame, bits),
+        Phase::AskP => ask_p(frame, bits.cds),
+        Phase::Acknowledge => acknowledge(frame, bits),
+        Phase::AskEX => ask_ex(frame, bits.cdm),
     }
 }

@@ -1,60 +1,23 @@
-// What every column's function is made of: the next state with an event or none, and bits as numbers.
-ghost use Rattle.std.specs.Prelude.{◌≡◌, ◌<◌};
-ghost use Rattle.protocol.specs.Bits.{num};
-ghost use Rattle.reader.specs.Code.{said, nothing, IsSmall, Made};
+// What every column's function is made of: the next frame, with an event or none.
+ghost use Rattle.std.specs.Prelude.{◌≡◌};
+ghost use Rattle.protocol.specs.Machine.{go, gives};
+ghost use Rattle.reader.specs.Code.{event_of, phase_of, turn_of};
 
-use crate::{Body, Event, Phase, Reader, Stepped};
+use crate::{Event, Frame, Turn};
 
-// A lock value is 9 at most; any bound above it would do.
-pub const LOCK_BOUND: u64 = 16;
-
-// A next state, and nothing to list.
-pub fn go(phase: Phase, zeros: u64, body: Body) -> Stepped
-    ensures { Made phase zeros body nothing result }
+// On, and nothing to list ..
+pub fn go(next: Frame) -> Turn
+    ensures { turn_of result ≡ go (phase_of next) }
 {
-    gives(phase, zeros, body, kinds::NONE, 0, 0, 0)
+    Turn { next, says: None }
 }
 
-// A next state, and an event.
-pub fn gives(
-    phase: Phase,
-    zeros: u64,
-    body: Body,
-    number: u64,
-    id: u64,
-    address: u64,
-    value: u64,
-) -> Stepped
-    requires { IsSmall (said number id address value) }
-    ensures { Made phase zeros body (said number id address value) result }
+// .. or an event.
+pub fn gives(event: Event, next: Frame) -> Turn
+    ensures { turn_of result ≡ gives (event_of event) (phase_of next) }
 {
-    let next = Reader {
-        phase: phase,
-        zeros: zeros,
-        body: body,
-    };
-    let event = Event {
-        kind: number,
-        id: id,
-        address: address,
-        value: value,
-    };
-    Stepped {
-        next: next,
-        event: event,
+    Turn {
+        next,
+        says: Some(event),
     }
-}
-
-// At rest, and an event of no field or none.
-pub fn rests(body: Body, number: u64) -> Stepped
-    requires { number < 256 }
-    ensures { Made Phase.Rest 0 body (said number 0 0 0) result }
-{
-    gives(Phase::Rest, 0, body, number, 0, 0, 0)
-}
-
-pub fn number(bit: bool) -> u64
-    ensures { (result ≡ num bit) × (result < 2) }
-{
-    bit as u64
 }

@@ -8,393 +8,314 @@
 //           S, IDA0  IDA1 .. IDA7      EX         a command; in a broadcast EX is column 31
 #![tactic(auto)]
 
-use job::{ENTRY_BYTES, Outcome};
-use lists::Fields;
+use job::{ENTRY_BYTES, Refusal};
 use std::io;
 
-// No column is flipped.
-const NONE: usize = 64;
+// The columns of a recording.
+const ROW: usize = 64;
 
-fn main(rt: HostRuntime) -> io::Result<()> {
-    locks_and_headers(&rt)?;
-    commands(&rt)?;
-    requests(&rt)?;
-    bytes(&rt)?;
-    waits(&rt)
+// What the master asks, one byte of it.
+#[derive(Clone, Copy)]
+enum Request {
+    // ID, address, and how often S is repeated until the slave answers it.
+    Read(u8, u8, u8),
+    // ID, address, value.
+    Write(u8, u8, u8),
+    // IDS, CMD, and whether it is executed.
+    Command(u8, u8, bool),
 }
 
-fn locks_and_headers(rt: &impl Print) -> io::Result<()> {
-    recorded(rt, b"a read\n", reading(0, 0x44), 3, NONE, NONE)?;
-    recorded(
-        rt,
-        b"IDL2 is 1 after IDL1 was 0\n",
-        reading(0, 0x44),
-        3,
-        NONE,
-        17,
-    )?;
-    recorded(rt, b"IDL5 alone\n", reading(0, 0x44), 3, NONE, 20)?;
-    recorded(
-        rt,
-        b"the header's last check bit\n",
-        reading(0, 0x44),
-        3,
-        29,
-        NONE,
-    )?;
-    recorded(rt, b"a bit of its address\n", reading(0, 0x44), 3, 20, NONE)
-}
-
-// ID 0 answers in column 30, ID 1 in column 31.
-fn commands(rt: &impl Print) -> io::Result<()> {
-    commanded(
-        rt,
-        b"a broadcast of CMD 2, executed\n",
-        commanding(0, 2, true),
-        NONE,
-        NONE,
-    )?;
-    commanded(
-        rt,
-        b"CMD 1 for ID 0, whose bit is sent first, executed\n",
-        commanding(0x80, 1, true),
-        NONE,
-        NONE,
-    )?;
-    commanded(
-        rt,
-        b"a broadcast of CMD 2, withheld\n",
-        commanding(0, 2, false),
-        NONE,
-        NONE,
-    )?;
-    commanded(
-        rt,
-        b"CMD 1 for ID 0, withheld\n",
-        commanding(0x80, 1, false),
-        NONE,
-        NONE,
-    )?;
-    commanded(
-        rt,
-        b"ID 0 does not acknowledge, and EX is sent\n",
-        commanding(0x80, 1, true),
-        30,
-        NONE,
-    )?;
-    commanded(
-        rt,
-        b"ID 0 acknowledges in the column of ID 1\n",
-        commanding(0x80, 1, true),
-        30,
-        31,
-    )?;
-    commanded(
-        rt,
-        b"an ID that is not locked acknowledges\n",
-        commanding(0xc0, 3, true),
-        31,
-        NONE,
-    )?;
-    commanded(
-        rt,
-        b"ID 0 does not acknowledge, and EX is withheld\n",
-        commanding(0x80, 1, false),
-        30,
-        NONE,
-    )
-}
-
-fn requests(rt: &impl Print) -> io::Result<()> {
-    recorded(rt, b"R = W = 1 in a read\n", reading(0, 0x44), 3, 31, NONE)?;
-    recorded(
-        rt,
-        b"R = W = 1 in a write\n",
-        writing(0, 0x44, 0x5b),
-        3,
-        30,
-        NONE,
-    )?;
-    recorded(
-        rt,
-        b"a read of an ID that nobody holds\n",
-        reading(1, 0x44),
-        3,
-        NONE,
-        NONE,
-    )?;
-    recorded(
-        rt,
-        b"a write to one: answered 0 0 as a refusal is\n",
-        writing(3, 0x44, 0x5b),
-        3,
-        NONE,
-        NONE,
-    )?;
-    recorded(rt, b"no right to read\n", reading(0, 0x44), 2, NONE, NONE)?;
-    recorded(
-        rt,
-        b"no right to write\n",
-        writing(0, 0x44, 0x5b),
-        1,
-        NONE,
-        NONE,
-    )?;
-    recorded(rt, b"R not repeated\n", reading(0, 0x44), 3, NONE, 30)?;
-    recorded(
-        rt,
-        b"an ID that is not locked accepts\n",
-        reading(0, 0x44),
-        3,
-        NONE,
-        15,
-    )
-}
-
-fn bytes(rt: &impl Print) -> io::Result<()> {
-    recorded(
-        rt,
-        b"S of a read not confirmed\n",
-        reading(0, 0x44),
-        3,
-        NONE,
-        32,
-    )?;
-    recorded(
-        rt,
-        b"S of a write not confirmed\n",
-        writing(0, 0x44, 0x5b),
-        3,
-        NONE,
-        32,
-    )?;
-    recorded(
-        rt,
-        b"a data bit of the answer\n",
-        reading(0, 0x44),
-        3,
-        NONE,
-        33,
-    )?;
-    recorded(
-        rt,
-        b"a check bit of the answer\n",
-        reading(0, 0x44),
-        3,
-        NONE,
-        44,
-    )?;
-    recorded(
-        rt,
-        b"a write with the right to write alone\n",
-        writing(0, 0x44, 0x5b),
-        2,
-        NONE,
-        NONE,
-    )?;
-    recorded(
-        rt,
-        b"a write to the last address: P is 1\n",
-        writing(0, 0x7f, 0x00),
-        3,
-        NONE,
-        NONE,
-    )?;
-    recorded(
-        rt,
-        b"a data bit of the master\n",
-        writing(0, 0x44, 0x5b),
-        3,
-        33,
-        NONE,
-    )?;
-    recorded(
-        rt,
-        b"a check bit of the master\n",
-        writing(0, 0x44, 0x5b),
-        3,
-        44,
-        NONE,
-    )?;
-    recorded(
-        rt,
-        b"a data bit of the echo\n",
-        writing(0, 0x44, 0x5b),
-        3,
-        NONE,
-        34,
-    )?;
-    recorded(
-        rt,
-        b"a check bit of the echo\n",
-        writing(0, 0x44, 0x5b),
-        3,
-        NONE,
-        44,
-    )?;
-    recorded(rt, b"P answered 1\n", reading(0, 0x44), 3, NONE, 45)?;
-    recorded(
-        rt,
-        b"P answered 0 at the last address\n",
-        reading(0, 0x7f),
-        3,
-        NONE,
-        45,
-    )
-}
-
-fn waits(rt: &impl Print) -> io::Result<()> {
-    waited(rt, b"a memory that waits three columns\n", asking(3), 3)?;
-    waited(rt, b"S repeated once, and given up\n", asking(1), 3)?;
-    waited(rt, b"S repeated twice too often\n", asking(5), 3)?;
-    waited(
-        rt,
-        b"the first byte of a write does not wait\n",
-        writing(0, 0x44, 0x5b),
-        3,
-    )
-}
-
-fn reading(id: u8, address: u8) -> [u8; 64] {
-    let mut row = [0u8; 64];
-    build::build_read(id, address, 1, 0, &mut row);
-    row
-}
-
-// A read of ID 0, address 44, by a master that repeats S so often.
-fn asking(wait: u8) -> [u8; 64] {
-    let mut row = [0u8; 64];
-    build::build_read(0, 0x44, 1, wait, &mut row);
-    row
-}
-
-fn writing(id: u8, address: u8, value: u8) -> [u8; 64] {
-    let mut row = [0u8; 64];
-    let bytes = [value];
-    build::build_write(id, address, &bytes, 0, &mut row);
-    row
-}
-
-fn commanding(ids: u8, cmd: u8, execute: bool) -> [u8; 64] {
-    let mut row = [0u8; 64];
-    build::build_command(ids, cmd, execute, &mut row);
-    row
-}
-
-// A slave that does not wait, with the same right everywhere.
-fn recorded(
-    rt: &impl Print,
-    what: &[u8],
-    row: [u8; 64],
-    right: u8,
-    sent: usize,
-    answered: usize,
-) -> io::Result<()> {
-    rt.write_all(what)?;
-    shown(rt, row, right, 0, sent, answered, NONE)
-}
-
-// A slave with all rights that does not wait, and two bits of its answers.
-fn commanded(
-    rt: &impl Print,
-    what: &[u8],
-    row: [u8; 64],
-    answered: usize,
-    also: usize,
-) -> io::Result<()> {
-    rt.write_all(what)?;
-    shown(rt, row, 3, 0, NONE, answered, also)
-}
-
-// A slave with all rights and a waiting number.
-fn waited(rt: &impl Print, what: &[u8], row: [u8; 64], wait: u8) -> io::Result<()> {
-    rt.write_all(what)?;
-    shown(rt, row, 3, wait, NONE, NONE, NONE)
-}
-
-// One slave, its register 44 holding 5A and the rest 0; one bit of the master row flipped before the run, two of the answers after it.
-fn shown(
-    rt: &impl Print,
-    row: [u8; 64],
+// What is asked of a slave with the same right everywhere and a waiting number, and the columns in which a bit of a row is flipped.
+#[derive(Clone, Copy)]
+struct Recording {
+    what: &'static str,
+    request: Request,
     right: u8,
     wait: u8,
-    sent: usize,
-    answered: usize,
-    also: usize,
-) -> io::Result<()> {
-    let mut cdm = row;
-    flip(&mut cdm, sent);
-    let mut registers = [0u8; 128];
-    registers[0x44] = 0x5a;
-    let rights = [right; 128];
-    let mut cds = [0u8; 64];
-    let waits = [wait];
-    let banks = [1u8];
-    let mut counts = [0u32; 4];
-    run::run(
-        1,
-        &banks,
-        &rights,
-        &waits,
-        &mut registers,
-        &mut counts,
-        &cdm,
-        &mut cds,
-    );
-    flip(&mut cds, answered);
-    flip(&mut cds, also);
-    let mut list = [0u8; ENTRY_BYTES * 64];
-    match read::read(&cdm, &cds, 0, &mut list) {
-        Outcome::Made(entries) => listed(rt, &list, entries),
-        Outcome::Refused(number, _) => refused(rt, number),
-    }
+    flipped_cdm: &'static [usize],
+    flipped_cds: &'static [usize],
 }
 
-fn flip(row: &mut [u8], column: usize) {
-    if column < row.len() {
-        if row[column] == 0 {
-            row[column] = 1;
-        } else {
-            row[column] = 0;
-        }
-    }
-}
+const READ: Recording = Recording {
+    what: "a read",
+    request: Request::Read(0, 0x44, 0),
+    right: 3,
+    wait: 0,
+    flipped_cdm: &[],
+    flipped_cds: &[],
+};
 
-// So many entries.
-fn listed(rt: &impl Print, list: &[u8], entries: usize) -> io::Result<()> {
-    let mut left = entries;
-    let mut at = 0;
-    while 0 < left {
-        if ENTRY_BYTES <= list.len() - at {
-            entry(rt, lists::entry_at(list, at))?;
-            at += ENTRY_BYTES;
-        }
-        left -= 1;
+const WRITE: Recording = Recording {
+    request: Request::Write(0, 0x44, 0x5b),
+    ..READ
+};
+
+// ID 0 answers in column 30, ID 1 in column 31.
+const COMMAND: Recording = Recording {
+    request: Request::Command(0x80, 1, true),
+    ..READ
+};
+
+const RECORDINGS: [Recording; 37] = [
+    // Locks and headers.
+    READ,
+    Recording {
+        what: "IDL2 is 1 after IDL1 was 0",
+        flipped_cds: &[17],
+        ..READ
+    },
+    Recording {
+        what: "IDL5 alone",
+        flipped_cds: &[20],
+        ..READ
+    },
+    Recording {
+        what: "the header's last check bit",
+        flipped_cdm: &[29],
+        ..READ
+    },
+    Recording {
+        what: "a bit of its address",
+        flipped_cdm: &[20],
+        ..READ
+    },
+    // Commands.
+    Recording {
+        what: "a broadcast of CMD 2, executed",
+        request: Request::Command(0x00, 2, true),
+        ..COMMAND
+    },
+    Recording {
+        what: "CMD 1 for ID 0, whose bit is sent first, executed",
+        ..COMMAND
+    },
+    Recording {
+        what: "a broadcast of CMD 2, withheld",
+        request: Request::Command(0x00, 2, false),
+        ..COMMAND
+    },
+    Recording {
+        what: "CMD 1 for ID 0, withheld",
+        request: Request::Command(0x80, 1, false),
+        ..COMMAND
+    },
+    Recording {
+        what: "ID 0 does not acknowledge, and EX is sent",
+        flipped_cds: &[30],
+        ..COMMAND
+    },
+    Recording {
+        what: "ID 0 acknowledges in the column of ID 1",
+        flipped_cds: &[30, 31],
+        ..COMMAND
+    },
+    Recording {
+        what: "an ID that is not locked acknowledges",
+        request: Request::Command(0xc0, 3, true),
+        flipped_cds: &[31],
+        ..COMMAND
+    },
+    Recording {
+        what: "ID 0 does not acknowledge, and EX is withheld",
+        request: Request::Command(0x80, 1, false),
+        flipped_cds: &[30],
+        ..COMMAND
+    },
+    // Requests.
+    Recording {
+        what: "R = W = 1 in a read",
+        flipped_cdm: &[31],
+        ..READ
+    },
+    Recording {
+        what: "R = W = 1 in a write",
+        flipped_cdm: &[30],
+        ..WRITE
+    },
+    Recording {
+        what: "a read of an ID that nobody holds",
+        request: Request::Read(1, 0x44, 0),
+        ..READ
+    },
+    Recording {
+        what: "a write to one: answered 0 0 as a refusal is",
+        request: Request::Write(3, 0x44, 0x5b),
+        ..WRITE
+    },
+    Recording {
+        what: "no right to read",
+        right: 2,
+        ..READ
+    },
+    Recording {
+        what: "no right to write",
+        right: 1,
+        ..WRITE
+    },
+    Recording {
+        what: "R not repeated",
+        flipped_cds: &[30],
+        ..READ
+    },
+    Recording {
+        what: "an ID that is not locked accepts",
+        flipped_cds: &[15],
+        ..READ
+    },
+    // Bytes.
+    Recording {
+        what: "S of a read not confirmed",
+        flipped_cds: &[32],
+        ..READ
+    },
+    Recording {
+        what: "S of a write not confirmed",
+        flipped_cds: &[32],
+        ..WRITE
+    },
+    Recording {
+        what: "a data bit of the answer",
+        flipped_cds: &[33],
+        ..READ
+    },
+    Recording {
+        what: "a check bit of the answer",
+        flipped_cds: &[44],
+        ..READ
+    },
+    Recording {
+        what: "a write with the right to write alone",
+        right: 2,
+        ..WRITE
+    },
+    Recording {
+        what: "a write to the last address: P is 1",
+        request: Request::Write(0, 0x7f, 0x00),
+        ..WRITE
+    },
+    Recording {
+        what: "a data bit of the master",
+        flipped_cdm: &[33],
+        ..WRITE
+    },
+    Recording {
+        what: "a check bit of the master",
+        flipped_cdm: &[44],
+        ..WRITE
+    },
+    Recording {
+        what: "a data bit of the echo",
+        flipped_cds: &[34],
+        ..WRITE
+    },
+    Recording {
+        what: "a check bit of the echo",
+        flipped_cds: &[44],
+        ..WRITE
+    },
+    Recording {
+        what: "P answered 1",
+        flipped_cds: &[45],
+        ..READ
+    },
+    Recording {
+        what: "P answered 0 at the last address",
+        request: Request::Read(0, 0x7f, 0),
+        flipped_cds: &[45],
+        ..READ
+    },
+    // Waits.
+    Recording {
+        what: "a memory that waits three columns",
+        request: Request::Read(0, 0x44, 3),
+        wait: 3,
+        ..READ
+    },
+    Recording {
+        what: "S repeated once, and given up",
+        request: Request::Read(0, 0x44, 1),
+        wait: 3,
+        ..READ
+    },
+    Recording {
+        what: "S repeated twice too often",
+        request: Request::Read(0, 0x44, 5),
+        wait: 3,
+        ..READ
+    },
+    Recording {
+        what: "the first byte of a write does not wait",
+        wait: 3,
+        ..WRITE
+    },
+];
+
+fn main(rt: HostRuntime) -> io::Result<()> {
+    for recording in RECORDINGS {
+        listed(&rt, recording)?;
     }
     Ok(())
 }
 
-fn entry(rt: &impl Print, e: Fields) -> io::Result<()> {
-    number(rt, e.kind as u64)?;
-    print!(rt; " ")?;
-    number(rt, e.column as u64)?;
-    print!(rt; " ")?;
-    number(rt, e.start as u64)?;
-    print!(rt; " ")?;
-    number(rt, e.id as u64)?;
-    print!(rt; " ")?;
-    number(rt, e.address as u64)?;
-    print!(rt; " ")?;
-    number(rt, e.bank as u64)?;
-    print!(rt; " ")?;
-    number(rt, e.value as u64)?;
-    println!(rt)
+fn listed(rt: &impl Print, recording: Recording) -> io::Result<()> {
+    println!(rt; "{}", recording.what)?;
+    let mut list = [0; ENTRY_BYTES * ROW];
+    match recorded(recording, &mut list) {
+        Ok(entries) => print_list(rt, &list, entries),
+        Err(why) => println!(rt; "refused {}", why.reason.number()),
+    }
 }
 
-fn refused(rt: &impl Print, number: u8) -> io::Result<()> {
-    println!(rt; "refused {number}")
+fn recorded(recording: Recording, list: &mut [u8]) -> Result<usize, Refusal> {
+    let mut cdm = [0; ROW];
+    ask(recording.request, &mut cdm)?;
+    flip(&mut cdm, recording.flipped_cdm);
+    let mut cds = [0; ROW];
+    answer(recording.right, recording.wait, &cdm, &mut cds)?;
+    flip(&mut cds, recording.flipped_cds);
+    read::read(&cdm, &cds, 0, list)
 }
 
-fn number(rt: &impl Print, n: u64) -> io::Result<()> {
-    print!(rt; "{n}")
+fn ask(request: Request, cdm: &mut [u8]) -> Result<usize, Refusal> {
+    match request {
+        Request::Read(id, address, wait) => build::build_read(id, address, 1, wait, cdm),
+        Request::Write(id, address, value) => build::build_write(id, address, &[value], 0, cdm),
+        Request::Command(ids, cmd, execute) => build::build_command(ids, cmd, execute, cdm),
+    }
+}
+
+// One slave of one bank answers, its register 44 holding 5A and the rest 0.
+fn answer(right: u8, wait: u8, cdm: &[u8], cds: &mut [u8]) -> Result<usize, Refusal> {
+    let mut registers = [0; 128];
+    registers[0x44] = 0x5a;
+    let mut counts = [0; 4];
+    run::run(
+        1,
+        &[1],
+        &[right; 128],
+        &[wait],
+        &mut registers,
+        &mut counts,
+        cdm,
+        cds,
+    )
+}
+
+fn flip(row: &mut [u8], columns: &[usize]) {
+    for column in columns {
+        if let Some(bit) = row.get_mut(*column) {
+            *bit ^= 1;
+        }
+    }
+}
+
+fn print_list(rt: &impl Print, list: &[u8], entries: usize) -> io::Result<()> {
+    for bytes in list.chunks_exact(ENTRY_BYTES).take(entries) {
+        let e = lists::entry_at(bytes, 0);
+        println!(rt;
+            "{} {} {} {} {} {} {}",
+            e.kind, e.column, e.start, e.id, e.address, e.bank, e.value
+        )?;
+    }
+    Ok(())
 }

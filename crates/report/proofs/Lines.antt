@@ -1,6 +1,8 @@
 -- A text printed whole, or refused by 9; and the line of a refusal. Assumes nothing.
 use mathlib.Core.Path.{◌≡◌, refl, sym, ap, ◌∙◌}
 use mathlib.Core.List.{List, [], ◌∷◌, map, append-nil}
+use mathlib.Core.Option.{none}
+use Rattle.std.specs.Prelude.{Ok, Err}
 use Prim.Native.Nat.{ℕ, ◌+◌, ◌≤◌, ◌<◌, ◌^◌}
 use native.Mathlib.Nat.{zero-add}
 use native.Mathlib.Omega.{arith}
@@ -9,11 +11,10 @@ use lib.ListN.{length, take, set}
 use lib.Seq.{take_at}
 use Rattle.protocol.specs.Entries.{bytes}
 use Rattle.protocol.specs.Text.{tab, feed, digits_in, decimal}
-use Rattle.job.specs.Refusals.{Detail, alone, on_line, of_job, refusal, first}
-use Rattle.job.specs.declared.Outcome.TheVariants.{Made, Refused}
-use Rattle.job.specs.declared.Detail.TheVariants.{Alone}
+use Rattle.job.specs.Refusals.{Detail, alone, on_line, of_job, refusal, refusal_of, first, lent, lent_after}
+use Rattle.job.specs.declared.Refusal as Returned
 use Rattle.job.proofs.Laid.{sets_first}
-use Rattle.job.proofs.Refusals.{ended_given}
+use Rattle.job.proofs.Refusals.{ended_refused, was_made, result_fits}
 use Rattle.print.specs.Laid.{Laid}
 use Rattle.print.proofs.Decimal.{decimal_short}
 use Rattle.print.proofs.Ends.{printed_made}
@@ -22,13 +23,20 @@ use Rattle.report.specs.Report.{fields, values, refused_text, Whole}
 
 -- The two ends of a text that is printed whole.
 module _ (text out : List ℕ) where
-  pub crowded : length out < length text → Whole text out (Refused 9 Alone) out
+  pub crowded : length out < length text → (r : Returned.Refusal) → refusal_of r ≡ refusal 9 alone → Whole text out (Err r) out
   unfolding first
-  crowded h = ended_given _ _ _ 9 (rw (lt-ltb _ _ h)) (λ z. omega arith)
+  crowded h r e = ended_refused _ _ _ r (rw (lt-ltb _ _ h, e))
 
-  pub roomy : length text ≤ length out → {n : ℕ} {after : List ℕ} → Laid text 0 out n after → Whole text out (Made n) after
+  pub roomy : length text ≤ length out → {n : ℕ} {after : List ℕ} → Laid text 0 out n after → Whole text out (Ok n) after
   unfolding first
   roomy h put = printed_made _ text out (rw (le-ltb _ _ h)) h put
+
+  -- What was printed is within its buffer.
+  pub printed_within : {n : ℕ} {after : List ℕ} → Whole text out (Ok n) after → n ≤ length after
+  printed_within {n} {after} printed =
+      let made = was_made printed in
+      let there : after ≡ lent_after none (lent text out) = cc in
+      rw (there, made.1) (result_fits text out)
 
 -- The front of a buffer is what was laid there.
 pub laid_front : {vs l l' : List ℕ} {n : ℕ} → Laid vs 0 l n l' → length vs ≤ length l → take n l' ≡ vs

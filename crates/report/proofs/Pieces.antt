@@ -1,15 +1,17 @@
 -- A text that is longer than any admitted one and comes in pieces: its report hangs on its fault alone, and that is found piece by piece,
 -- wherever they begin. Assumes nothing.
 use mathlib.Core.Path.{◌≡◌, sym, ap, ◌∙◌}
-use mathlib.Core.List.{List, ◌++◌}
-use Prim.Native.Nat.{ℕ, ◌+◌, ◌<◌}
+use mathlib.Core.List.{List, [], ◌++◌, append-nil}
+use Prim.Native.Nat.{ℕ, ◌+◌, ◌≤◌, ◌<◌}
 use native.Mathlib.Nat.{zero-add}
 use native.Mathlib.Omega.{arith}
+use borrow.Author.Tests.{ltb-true, ltb-false}
+use lib.Dec.{ltb}
 use lib.ListN.{length, length-append}
 use Rattle.protocol.specs.Limits.{column_limit}
 use Rattle.protocol.specs.Text.{cdm_of}
 use Rattle.protocol.specs.Fault.{stop, fault_at, text_fault}
-use Rattle.laws.proofs.Every.{looked_up}
+use Rattle.laws.proofs.Every.{tested, looked_up}
 use Rattle.protocol.proofs.Stop.{stop_pieces, stop_first}
 use Rattle.protocol.proofs.Fault.{fault_inside}
 use Rattle.rows_text.proofs.Ends.{columns_in}
@@ -53,3 +55,16 @@ module _ (before piece : List ℕ) (good : stop 0 before ≡ length before) wher
         let stopped : stop 0 text ≡ stop here piece = on (piece ++ rest) ∙ stop_first rest here piece h in
         let inside : stop here piece < length text = omega arith in
         by_fault text k longer ∙ ap long_report (rw stopped (fault_inside _ _ _ inside h))
+
+  -- So where they have more bytes than any admitted text, and a piece that keeps its form to its end is the last one:
+  module _ (k : ℕ) (long : 16396 ≤ end) where
+    longer : column_limit < length (cdm_of (before ++ piece))
+    longer = omega (arith, (columns_in (before ++ piece)).0, length-append before piece)
+
+    pub piece_ends : (rest : List ℕ) → (end ≤ stop here piece → rest ≡ [])
+        → long_report (fault_at (stop here piece) end) ≡ report_text (before ++ (piece ++ rest)) k
+    piece_ends rest last =
+        tested (ltb (stop here piece) end) (λ q. sym (piece_bad k longer rest (ltb-true (stop here piece) end q)))
+        (λ q.
+        let none : rest ≡ [] = last (ltb-false (stop here piece) end q) in
+        rw (none, append-nil) (sym (piece_last k longer)))

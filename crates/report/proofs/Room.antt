@@ -2,6 +2,7 @@
 use mathlib.Core.Path.{◌≡◌}
 use mathlib.Core.List.{List, [], ◌∷◌}
 use mathlib.Core.Option.{Option, none, some}
+use Rattle.std.specs.Prelude.{Result, Ok}
 use Prim.Native.Nat.{ℕ, ◌*◌, ◌^◌, ◌≤◌, ◌<◌}
 use native.Mathlib.Omega.{arith}
 use borrow.Author.Tests.{le-ltb, ltb-true, ltb-false}
@@ -14,8 +15,7 @@ use Rattle.protocol.specs.Fault.{Fault, fault_at, text_fault}
 use Rattle.laws.proofs.Every.{Every, IfAny, tested, looked_up}
 use Rattle.protocol.proofs.Fault.{Low, fault_low, text_low}
 use Rattle.job.specs.Refusals.{alone, on_line, refusal, first}
-use Rattle.job.specs.declared.Outcome.{Outcome}
-use Rattle.job.specs.declared.Outcome.TheVariants.{Made}
+use Rattle.job.specs.declared.Refusal as Returned
 use Rattle.job.proofs.Refusals.{ended_none}
 use Rattle.read.specs.Read.{list_of}
 use Rattle.read.proofs.Left.{length_listed}
@@ -83,16 +83,16 @@ long_fits none h low = number_fits 5 (omega arith)
 long_fits (some f) h low = fault_fits f h low
 
 -- What fits is made.
-module _ (out : List ℕ) (room : report_room ≤ length out) {outcome : Outcome} {after : List ℕ} where
-  fits_made : (text : List ℕ) → length text ≤ report_room → Whole text out outcome after → outcome ≡ Made (length text)
+module _ (out : List ℕ) (room : report_room ≤ length out) {outcome : Result ℕ Returned.Refusal} {after : List ℕ} where
+  fits_made : (text : List ℕ) → length text ≤ report_room → Whole text out outcome after → outcome ≡ Ok (length text)
   unfolding first
   fits_made text h printed =
       let fits : length text ≤ length out = omega arith in ended_none printed (rw (le-ltb (length out) (length text) fits))
 
   pub report_made : (text : List ℕ) (k : ℕ) → length text < 2 ^ 63 → Reported text k out outcome after
-      → outcome ≡ Made (length (report_text text k))
+      → outcome ≡ Ok (length (report_text text k))
   report_made text k h = fits_made (report_text text k) (report_fits text k h)
 
   pub long_made : (at end : ℕ) → at ≤ end → end < 2 ^ 64 → Whole (long_report (fault_at at end)) out outcome after
-      → outcome ≡ Made (length (long_report (fault_at at end)))
+      → outcome ≡ Ok (length (long_report (fault_at at end)))
   long_made at end h k = fits_made (long_report (fault_at at end)) (long_fits (fault_at at end) k (fault_low at end h))

@@ -1,12 +1,14 @@
 -- What the indexing program prints for a text of two rows and an opening column. The texts themselves are protocol's (specs/Text).
-use Rattle.std.specs.Prelude.{List, [], ◌∷◌, ◌++◌, ℕ, ◌*◌, ltb, length}
+use Rattle.std.specs.Prelude.{List, [], ◌∷◌, ◌++◌, ℕ, ◌*◌, ltb, length, Result}
 use Rattle.std.proofs.Math.Option.{Option, none, some, get_or}
 use Rattle.protocol.specs.Limits.{column_limit}
 use Rattle.protocol.specs.Entries.{bytes}
+use Rattle.protocol.specs.Banks.{Banked}
+use Rattle.protocol.specs.Layout.{current, list_bytes}
 use Rattle.protocol.specs.Text.{tab, feed, decimal, cdm_of, cds_of, list_text}
 use Rattle.protocol.specs.Fault.{Fault, text_fault}
-use Rattle.job.specs.Refusals.{Detail, alone, on_line, of_job, Refusal, refusal, Rule, when, found, first}
-use Rattle.job.specs.declared.Outcome.{Outcome}
+use Rattle.job.specs.Refusals.{Detail, alone, on_line, of_job, Refusal, refusal, Rule, when, found, first, lent, Ended}
+use Rattle.job.specs.declared.Refusal as Returned
 use Rattle.print.specs.Printed.{Printed}
 use Rattle.read.specs.Read.{list_of}
 use Rattle.rows_text.specs.RowsText.{bad_form}
@@ -56,10 +58,16 @@ rows_report cdm cds opening = printed (first (when (ltb (length cdm) opening) 8 
 unfoldable pub long_report : Option Fault → List ℕ
 long_report fault = refused_text (get_or (bad_form fault) (refusal 5 alone))
 
+-- What listed promises: the entries that a text's rows show and their list, or the refusal.
+abbrev pub Shown : (text : List ℕ) → (opening : ℕ) → (out : List ℕ) → Result ℕ Returned.Refusal → (after : List ℕ) → Type 0
+Shown text opening out outcome after =
+    let list : List Banked = list_of opening (cdm_of text) (cds_of text) in
+    Ended (report_refusals text opening) (length list) (lent (list_bytes current list) out ∷ []) outcome (after ∷ [])
+
 -- A text printed whole, or refused by 9: "the result needs more room than was lent, and only then".
-abbrev pub Whole : (text out : List ℕ) → Outcome → (after : List ℕ) → Type 0
+abbrev pub Whole : (text out : List ℕ) → Result ℕ Returned.Refusal → (after : List ℕ) → Type 0
 Whole text out outcome after = Printed (when (ltb (length out) (length text)) 9 ∷ []) text out outcome after
 
 -- What report promises.
-abbrev pub Reported : (text : List ℕ) → (opening : ℕ) → (out : List ℕ) → Outcome → (after : List ℕ) → Type 0
+abbrev pub Reported : (text : List ℕ) → (opening : ℕ) → (out : List ℕ) → Result ℕ Returned.Refusal → (after : List ℕ) → Type 0
 Reported text opening out outcome after = Whole (report_text text opening) out outcome after

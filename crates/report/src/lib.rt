@@ -1,17 +1,13 @@
 // What the indexing program prints for a text of two rows: their list as text, or the line of a refusal.
 #![tactic(auto)]
 
-ghost use Rattle.std.specs.Prelude.{◌≡◌, ◌+◌, ◌*◌, ◌≤◌, length};
-ghost use Rattle.std.proofs.Math.Option.{none};
-ghost use Rattle.protocol.specs.Limits.{column_limit};
-ghost use Rattle.protocol.specs.Layout.{current, entry_bytes};
+ghost use Rattle.std.specs.Prelude.{◌+◌, ◌≤◌, length};
 ghost use Rattle.protocol.specs.Fault.{fault_at};
-ghost use Rattle.job.specs.Refusals.{refusal, detail, first};
-ghost use Rattle.job.specs.Rows.{wrong_rows};
+ghost use Rattle.job.specs.Refusals.{detail, refusal_of};
 ghost use Rattle.print.specs.Laid.{Laid};
-ghost use Rattle.report.specs.Report.{fields, values, refused_text, rows_report, long_report, Whole, Reported};
+ghost use Rattle.report.specs.Report.{fields, values, refused_text, long_report, Shown, Whole, Reported};
 
-use job::{COLUMN_LIMIT, Detail, ENTRY_BYTES, Outcome};
+use job::{COLUMN_LIMIT, Detail, ENTRY_BYTES, Reason, Refusal};
 
 // Room for any report: for each column a line of at most 36 bytes, and in what is over the header.
 pub const REPORT_ROOM: usize = 37 * COLUMN_LIMIT;
@@ -23,52 +19,45 @@ const LIST_LIMIT: usize = ENTRY_BYTES * COLUMN_LIMIT;
 const REFUSAL_LIMIT: usize = 80;
 
 // The list of a text of two rows from an opening column on, or the line of the refusal: 13 to 17, 5, 8.
-pub fn report(text: &[u8], opening: usize, out: &mut [u8]) -> Outcome
+pub fn report(text: &[u8], opening: usize, out: &mut [u8]) -> Result<usize, Refusal>
     ensures { Reported text.now opening out.old result out.new }
 {
-    let mut cdm = row();
-    let mut cds = row();
-    let taken = rows_text::text_to_rows(text, &mut cdm, &mut cds);
-    match taken {
-        Outcome::Made(n) => rows_report(&cdm[..n], &cds[..n], opening, out),
-        Outcome::Refused(number, beside) => refused(number, beside, out),
+    let mut list = [0; LIST_LIMIT];
+    match listed(text, opening, &mut list) {
+        Ok(n) => list_text::list_to_text(&list[..ENTRY_BYTES * n], out),
+        Err(why) => refused(why, out),
     }
 }
 
 // The report on a text of more columns than a row may have, by the place where it stops and its end, or that of the piece which it
 // stops in: a fault anywhere goes before 5.
-pub fn long_report(stop: usize, end: usize, out: &mut [u8]) -> Outcome
+pub fn long_report(stop: usize, end: usize, out: &mut [u8]) -> Result<usize, Refusal>
     ensures { Whole (long_report (fault_at stop end)) out.old result out.new }
 {
-    let number = cursor::fault_number(stop, end);
-    if number != 0 {
-        refused(number, rows_text::fault_detail(stop), out)
-    } else {
-        refused(5, Detail::Alone, out)
+    match rows_text::formed(stop, end) {
+        Ok(()) => refused(Reason::TooManyColumns.into(), out),
+        Err(why) => refused(why, out),
     }
 }
 
-// The list of two rows as text, or the line of refusal 8.
-fn rows_report(cdm: &[u8], cds: &[u8], opening: usize, out: &mut [u8]) -> Outcome
-    requires { first (wrong_rows cdm.now cds.now) ≡ none }
-    ensures { Whole (rows_report cdm.now cds.now opening) out.old result out.new }
+// The list that a text of two rows shows from an opening column on.
+fn listed(text: &[u8], opening: usize, list: &mut [u8; LIST_LIMIT]) -> Result<usize, Refusal>
+    ensures { Shown text.now opening list.old result list.new }
 {
-    let mut list = list_room();
-    let listed = read::read(cdm, cds, opening, &mut list);
-    match listed {
-        Outcome::Made(n) => list_text::list_to_text(&list[..ENTRY_BYTES * n], out),
-        Outcome::Refused(number, beside) => refused(number, beside, out),
-    }
+    let mut cdm = [0; COLUMN_LIMIT];
+    let mut cds = [0; COLUMN_LIMIT];
+    let n = rows_text::text_to_rows(text, &mut cdm, &mut cds)?;
+    read::read(&cdm[..n], &cds[..n], opening, list)
 }
 
 // The line of a refusal: its number, and what is told beside it.
-fn refused(number: u8, beside: Detail, out: &mut [u8]) -> Outcome
-    ensures { Whole (refused_text (refusal number (detail beside))) out.old result out.new }
+fn refused(why: Refusal, out: &mut [u8]) -> Result<usize, Refusal>
+    ensures { Whole (refused_text (refusal_of why)) out.old result out.new }
 {
-    let mut line = [0u8; REFUSAL_LIMIT];
+    let mut line = [0; REFUSAL_LIMIT];
     let tab = print::put_bytes(&mut line, 0, b"refused");
-    let told = print::put_number(&mut line, tab, number as u64);
-    let feed = put_beside(&mut line, told, beside);
+    let told = print::put_number(&mut line, tab, why.reason.number() as u64);
+    let feed = put_beside(&mut line, told, why.beside);
     line[feed] = b'\n';
     whole(&line[..feed + 1], out)
 }
@@ -89,24 +78,11 @@ fn put_beside(out: &mut [u8], at: usize, beside: Detail) -> usize
 }
 
 // A text as it is, where there is room for it.
-fn whole(text: &[u8], out: &mut [u8]) -> Outcome
+fn whole(text: &[u8], out: &mut [u8]) -> Result<usize, Refusal>
     ensures { Whole text.now out.old result out.new }
 {
     if out.len() < text.len() {
-        return Outcome::Refused(9, Detail::Alone);
+        return Err(Reason::NoRoom.into());
     }
-    let n = print::put_bytes(out, 0, text);
-    Outcome::Made(n)
-}
-
-fn row() -> [u8; COLUMN_LIMIT]
-    ensures { column_limit ≡ length result }
-{
-    [0; COLUMN_LIMIT]
-}
-
-fn list_room() -> [u8; LIST_LIMIT]
-    ensures { entry_bytes current * column_limit ≡ length result }
-{
-    [0; LIST_LIMIT]
+    Ok(print::put_bytes(out, 0, text))
 }

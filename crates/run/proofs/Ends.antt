@@ -2,7 +2,9 @@
 use mathlib.Core.Path.{◌≡◌, refl, sym, ap, ◌∙◌}
 use mathlib.Core.Bool.{true}
 use mathlib.Core.List.{List}
-use mathlib.Core.Option.{none}
+use mathlib.Core.Option.{none, some}
+use Rattle.std.proofs.lemmas.Bool.{or_parts}
+use Rattle.std.specs.Prelude.{Ok, Err}
 use Prim.Native.Nat.{ℕ, ◌*◌, ◌≤◌}
 use borrow.Author.Tests.{ltb-false, eqb-true, not-false}
 use lib.Dec.{eqb}
@@ -10,11 +12,11 @@ use lib.ListN.{length}
 use Rattle.protocol.specs.Limits.{column_limit, command_count}
 use Rattle.laws.proofs.Every.{both}
 use Rattle.job.specs.Bytes.{are_bits}
-use Rattle.job.specs.Refusals.{Rule, first, given, lent, lent_after}
+use Rattle.job.specs.Refusals.{alone, refusal, Rule, first, number, lent, lent_after}
 use Rattle.job.specs.Rows.{row_rules, wrong_row}
-use Rattle.job.specs.declared.Outcome.TheVariants.{Made, Refused}
+use Rattle.job.specs.declared.Reason.{Reason}
 use Rattle.job.specs.declared.Detail.TheVariants.{Alone}
-use Rattle.job.proofs.Refusals.{no, no_either, laid_whole, ended_given, ended_made}
+use Rattle.job.proofs.Refusals.{no, laid_whole, ended_refused, ended_made}
 use Rattle.run.specs.Run.{are_counts, size_refusals, refusals, Ran}
 use Rattle.run.specs.Parts.{Holds, Rowed}
 
@@ -42,7 +44,7 @@ module _ (slaves : ℕ) (table registers rights waits counts cdm cds : List ℕ)
 
   pub short_row : length cdm ≤ column_limit
   unfolding refusals size_refusals wrong_row row_rules
-  short_row = ltb-false _ _ (no_either _ _ (no 5 _ e)).0
+  short_row = ltb-false _ _ (or_parts _ _ (no 5 _ e)).0
 
   pub same_rows : length cds ≡ length cdm
   unfolding refusals size_refusals wrong_row row_rules
@@ -56,13 +58,13 @@ module _ (slaves : ℕ) (table rights waits registers counts cdm cds : List ℕ)
   abbrev rules : List Rule
   rules = refusals slaves table (length registers) rights (length waits) (length counts) cdm (length cds)
 
-  pub ran_refused : (why : ℕ) → given why ≡ first rules → (why ≡ 0 → ⊥)
-      → Ran slaves table rights waits registers counts cdm cds (Refused why Alone) registers counts cds
-  ran_refused why e h = record { ends = ended_given _ _ _ why e h }
+  pub ran_refused : (reason : Reason) → some (refusal (number reason) alone) ≡ first rules
+      → Ran slaves table rights waits registers counts cdm cds (Err (record { reason = reason; beside = Alone })) registers counts cds
+  ran_refused reason e = record { ends = ended_refused _ _ _ _ (sym e) }
 
   pub ran_made : (registers' counts' cds' : List ℕ) → first rules ≡ none → Rowed table rights waits registers cdm registers' counts' cds'
       → length registers' ≡ length registers → length counts' ≡ length counts → length cds' ≡ length cds
-      → Ran slaves table rights waits registers counts cdm cds (Made (length cdm)) registers' counts' cds'
+      → Ran slaves table rights waits registers counts cdm cds (Ok (length cdm)) registers' counts' cds'
   ran_made registers' counts' cds' e r same-registers same-counts same_row =
       let in_registers = whole_buffer _ registers r.registers_after same-registers in
       let in_counts = whole_buffer _ counts r.counts_after same-counts in

@@ -2,11 +2,12 @@
 use mathlib.Core.Path.{◌≡◌}
 use mathlib.Core.List.{List}
 use Prim.Native.Nat.{ℕ}
-use Rattle.job.specs.declared.Outcome.{Outcome}
+use Rattle.std.specs.Prelude.{Result}
+use Rattle.job.specs.declared.Refusal.{Refusal}
 use Rattle.job.proofs.Refusals.{ended_unique}
 use Rattle.run.specs.Run.{Ran}
 
-run_unique : {slaves : ℕ} {table rights waits registers counts cdm cds : List ℕ} {a b : Outcome}
+run_unique : {slaves : ℕ} {table rights waits registers counts cdm cds : List ℕ} {a b : Result ℕ Refusal}
     {registers' registers'' counts' counts'' cds' cds'' : List ℕ}
     → Ran slaves table rights waits registers counts cdm cds a registers' counts' cds'
     → Ran slaves table rights waits registers counts cdm cds b registers'' counts'' cds''

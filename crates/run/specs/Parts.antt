@@ -1,15 +1,15 @@
 -- One slave over a whole row, and the slaves one after the other, as the code takes them: nothing here is needed to read what run
 -- promises. That this is protocol's chain, which goes column by column, is proved (proofs/Turned).
-use Rattle.std.specs.Prelude.{◌≡◌, Bool, cond, List, [], ◌∷◌, map, ℕ, ◌*◌, ltb, length, get_or}
-use Rattle.std.proofs.Math.Option.{Option, none, some}
+use Rattle.std.specs.Prelude.{◌≡◌, Bool, List, [], ◌∷◌, map, ℕ, ◌*◌, length, get_or, Option as Maybe, Some, None}
+use Rattle.std.proofs.Math.Option.{Option, none}
 use Rattle.protocol.specs.Limits.{bank_size, command_count}
 use Rattle.protocol.specs.Bits.{num, row_of}
 use Rattle.protocol.specs.Rest.{power_on}
-use Rattle.protocol.specs.Memory.{Memory, place_of, uncounted, one_more}
+use Rattle.protocol.specs.Memory.{Memory, place_of, at, put_at, uncounted, one_more}
 use Rattle.protocol.specs.Slave as protocol
 use Rattle.protocol.specs.Chain.{answers_from, memories_after}
 use Rattle.slave.specs.declared.Seen.{Seen}
-use Rattle.run.specs.Run.{size_of, sizes, memories_of, registers_of, counts_of}
+use Rattle.run.specs.Run.{sizes, memories_of, registers_of, counts_of}
 
 -- The bits that a slave sends, from the master's and its far neighbour's ..
 unfoldable pub sent_by : protocol.Slave → (ms bs : List Bool) → List Bool
@@ -32,27 +32,25 @@ memory_by banks registers rights wait counts =
 abbrev pub new_by : (banks : ℕ) → (registers rights : List ℕ) → (wait : ℕ) → protocol.Slave
 new_by banks registers rights wait = protocol.slave (memory_by banks registers rights wait uncounted) power_on
 
--- A slave's counts after a column: one more of the code that was executed in it; a number that is no code says that none was.
-unfoldable pub counts_by : (ran : ℕ) → (counts : List ℕ) → List ℕ
-counts_by ran counts = cond (ltb ran command_count) (one_more counts ran) counts
+-- A slave's counts after a column: one more of the code that was executed in it, if one was.
+abbrev pub counts_by : (ran : Maybe ℕ) → (counts : List ℕ) → List ℕ
+counts_by None counts = counts
+counts_by (Some code) counts = one_more counts code
 
--- A place; where there is none, the one past a slave's registers: there nothing stands, and nothing is stored.
-abbrev pub placed_at : (past : ℕ) → Option ℕ → ℕ
-placed_at past none = past
-placed_at past (some i) = i
+-- Its registers after a column, in which a byte was stored at the place that it looks at, or none was.
+abbrev pub kept : (registers : List ℕ) → (place : Option ℕ) → (stored : Maybe ℕ) → List ℕ
+kept registers place None = registers
+kept registers place (Some byte) = put_at registers place byte
 
--- The place of the register that an address shows, by the number of banks and the number in the bank register ..
-abbrev pub shown_at : (banks chosen address : ℕ) → ℕ
-shown_at banks chosen address = placed_at (size_of banks) (place_of banks chosen address)
-
--- .. and in the registers as they stand.
-unfoldable pub shown_in : (banks : ℕ) → (registers : List ℕ) → (address : ℕ) → ℕ
-shown_in banks registers address = shown_at banks (get_or registers (bank_size * banks) 0) address
+-- The place of the register that is looked at, in the registers as they stand, if one is looked at and its address shows one.
+abbrev pub shown_in : (banks : ℕ) → (registers : List ℕ) → (address : Maybe ℕ) → Option ℕ
+shown_in banks registers None = none
+shown_in banks registers (Some address) = place_of banks (get_or registers (bank_size * banks) 0) address
 
 -- What a slave sees in a column, of the bits, its own bytes, the place that it looks at and its waiting number.
-abbrev pub seen_by : (master far : Bool) → (rights registers : List ℕ) → (place wait : ℕ) → Seen
+abbrev pub seen_by : (master far : Bool) → (rights registers : List ℕ) → (place : Option ℕ) → (wait : ℕ) → Seen
 seen_by master far rights registers place wait =
-    record { master = master; far = far; right = get_or rights place 0; byte = get_or registers place 0; wait = wait }
+    record { master = master; far = far; right = at rights place; byte = at registers place; wait = wait }
 
 -- The lent registers, rights, waits and counts hold the slaves of a table.
 pub record Holds (table registers rights waits counts : List ℕ) : Type 0 where

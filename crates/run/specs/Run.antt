@@ -1,5 +1,6 @@
 -- The job run: a chain of slaves over a master row; when it refuses, and what it leaves. The chain itself is protocol's (specs/Chain).
-use Rattle.std.specs.Prelude.{Bool, true, not, ◌&&◌, List, [], ◌∷◌, ◌++◌, map, ℕ, ◌+◌, ◌*◌, ltb, leb, eqb, length, take, drop, get_or}
+use Rattle.std.specs.Prelude.{Bool, not, ◌&&◌, List, [], ◌∷◌, ◌++◌, map, ℕ, ◌+◌, ◌*◌, ltb, leb, eqb, length, take, drop, get_or, Result}
+use Rattle.std.specs.List.{list_all}
 use Rattle.protocol.specs.Limits.{slave_limit, bank_size, bank_limit, command_count}
 use Rattle.protocol.specs.Bits.{num, row_of}
 use Rattle.protocol.specs.Memory.{Memory, uncounted}
@@ -7,7 +8,7 @@ use Rattle.protocol.specs.Chain.{answers_from, memories_after}
 use Rattle.job.specs.Bytes.{none_above}
 use Rattle.job.specs.Refusals.{Rule, when, lent, Ended}
 use Rattle.job.specs.Rows.{wrong_row}
-use Rattle.job.specs.declared.Outcome.{Outcome}
+use Rattle.job.specs.declared.Refusal.{Refusal}
 
 -- Request 05: "64 x (banks + 1) bytes a slave": its banks, and behind them its fixed registers ..
 abbrev pub size_of : (banks : ℕ) → ℕ
@@ -19,9 +20,8 @@ sizes [] = 0
 sizes (b ∷ table) = size_of b + sizes table
 
 -- Request 05: "A table gives each slave 1 to 8 banks of 64 bytes".
-unfoldable pub are_counts : (table : List ℕ) → Bool
-are_counts [] = true
-are_counts (b ∷ table) = leb 1 b && leb b bank_limit && are_counts table
+abbrev pub are_counts : (table : List ℕ) → Bool
+are_counts table = list_all (λ b. leb 1 b && leb b bank_limit) table
 
 -- "Chain order in the buffers is far slave first": its registers and rights, as many as its banks take, and its waiting number, then those
 -- of its neighbour, and so on. Request 07: its counts are "from 0 in each run", whatever was lent.
@@ -70,8 +70,8 @@ refusals slaves table registers rights waits counts cdm columns =
     ∷ size_refusals slaves (sizes table) registers rights waits counts cdm columns
 
 -- What run returns, in columns, and what it leaves in the lent registers, in the lent counts and in the lent answer row.
-pub record Ran (slaves : ℕ) (table rights waits registers counts cdm cds : List ℕ) (outcome : Outcome) (registers' counts' cds' : List ℕ)
-    : Type 0 where
+pub record Ran (slaves : ℕ) (table rights waits registers counts cdm cds : List ℕ) (outcome : Result ℕ Refusal)
+    (registers' counts' cds' : List ℕ) : Type 0 where
   pub ends :
       Ended (refusals slaves table (length registers) rights (length waits) (length counts) cdm (length cds)) (length cdm)
       (lent (registers_of (memories_after (memories_of table registers rights waits) (row_of cdm))) registers

@@ -1,15 +1,16 @@
-// The job run: a chain of 0 to 16 slaves, each of 1 to 8 banks, over a master row. It returns Made with the number of columns, or Refused
-// with 1 to 7, 18, 19 or 21 and every lent byte and count as it was.
+// The job run: a chain of 0 to 16 slaves, each of 1 to 8 banks, over a master row. It returns the number of columns, or a refusal,
+// 1 to 7, 18, 19 or 21, with every lent byte and count as it was.
 #![tactic(auto)]
 
-ghost use Rattle.std.specs.Prelude.{◌≡◌, ◌≤◌, ◌<◌, length, replicate, get_or, set};
+ghost use Rattle.std.specs.Prelude.{◌≡◌, ℕ, ◌≤◌, ◌<◌, length, get_or, IfSome};
 ghost use Rattle.protocol.specs.Limits.{column_limit, slave_limit, address_count, command_count};
-ghost use Rattle.protocol.specs.Memory.{uncounted};
+ghost use Rattle.protocol.specs.Memory.{place_of, at};
 ghost use Rattle.job.specs.Refusals.{first, given};
+ghost use Rattle.slave.specs.Code.{option_of};
 ghost use Rattle.run.specs.Run.{size_of, sizes, are_counts, refusals, size_refusals, Ran};
-ghost use Rattle.run.specs.Parts.{counts_by, shown_at, shown_in, seen_by, Holds, Passed, Rowed};
+ghost use Rattle.run.specs.Parts.{kept, counts_by, shown_in, seen_by, Holds, Passed, Rowed};
 
-use job::{Detail, Outcome};
+use job::{Reason, Refusal};
 use slave::{Seen, Slave};
 
 // Refusal 1: "more than 16 slaves".
@@ -42,10 +43,10 @@ pub fn run(
     counts: &mut [u32],
     cdm: &[u8],
     cds: &mut [u8],
-) -> Outcome
+) -> Result<usize, Refusal>
     ensures { Ran slaves banks.now rights.now waits.now registers.old counts.old cdm.now cds.old result registers.new counts.new cds.new }
 {
-    let why = refusal(
+    refusal(
         slaves,
         banks,
         registers.len(),
@@ -54,15 +55,12 @@ pub fn run(
         counts.len(),
         cdm,
         cds.len(),
-    );
-    if why != 0 {
-        return Outcome::Refused(why, Detail::Alone);
-    }
+    )?;
     answer_row(banks, rights, waits, registers, counts, cdm, cds);
-    Outcome::Made(cdm.len())
+    Ok(cdm.len())
 }
 
-// 1 to 7, 18, 19 or 21, or 0 where none of them is given.
+// 1 to 7, 18, 19 or 21. Its parameters are run's own, but for the lengths, since nothing else of those buffers is judged.
 fn refusal(
     slaves: usize,
     banks: &[u8],
@@ -72,24 +70,22 @@ fn refusal(
     counts: usize,
     cdm: &[u8],
     columns: usize,
-) -> u8
+) -> Result<(), Reason>
     ensures { given result ≡ first (refusals slaves banks.now registers rights.now waits counts cdm.now columns) }
 {
     if SLAVES < slaves {
-        1
-    } else if banks.len() != slaves {
-        19
-    } else if are_counts(banks) {
+        Err(Reason::TooManySlaves)
+    } else if banks.len() != slaves || !are_counts(banks) {
+        Err(Reason::WrongBanks)
+    } else {
         let bytes = sizes(banks);
         size_refusal(
             slaves, bytes, registers, rights, waits, counts, cdm, columns,
         )
-    } else {
-        19
     }
 }
 
-// 2 to 7, 18 or 21, or 0, of slaves that have so many bytes.
+// 2 to 7, 18 or 21, of slaves that have so many bytes.
 fn size_refusal(
     slaves: usize,
     bytes: usize,
@@ -99,24 +95,22 @@ fn size_refusal(
     counts: usize,
     cdm: &[u8],
     columns: usize,
-) -> u8
+) -> Result<(), Reason>
     requires { slaves ≤ slave_limit }
     ensures { given result ≡ first (size_refusals slaves bytes registers rights.now waits counts cdm.now columns) }
 {
     if registers != bytes {
-        2
+        Err(Reason::WrongRegisters)
     } else if rights.len() != bytes {
-        3
-    } else if job::none_above(rights, RIGHTS) {
-        if waits != slaves {
-            18
-        } else if counts != CODES * slaves {
-            21
-        } else {
-            job::wrong_row(cdm, columns)
-        }
+        Err(Reason::WrongRights)
+    } else if !job::none_above(rights, RIGHTS) {
+        Err(Reason::RightTooHigh)
+    } else if waits != slaves {
+        Err(Reason::WrongWaits)
+    } else if counts != CODES * slaves {
+        Err(Reason::WrongCounts)
     } else {
-        4
+        job::wrong_row(cdm, columns)
     }
 }
 
@@ -124,17 +118,7 @@ fn size_refusal(
 fn are_counts(banks: &[u8]) -> bool
     ensures { result ≡ are_counts banks.now }
 {
-    let mut i = 0;
-    while i < banks.len() {
-        if banks[i] < 1 {
-            return false;
-        }
-        if BANKS < banks[i] {
-            return false;
-        }
-        i += 1;
-    }
-    true
+    banks.iter().all(|count| 1 <= *count && *count <= BANKS)
 }
 
 // The bytes of all slaves of a table.
@@ -142,13 +126,7 @@ fn sizes(banks: &[u8]) -> usize
     requires { length banks.now ≤ slave_limit }
     ensures { result ≡ sizes banks.now }
 {
-    let mut bytes = 0;
-    let mut i = 0;
-    while i < banks.len() {
-        bytes += size_of(banks[i]);
-        i += 1;
-    }
-    bytes
+    banks.iter().map(|count| size_of(*count)).sum()
 }
 
 // Request 05: "64 x (banks + 1) bytes a slave".
@@ -172,15 +150,14 @@ fn answer_row(
     requires { (Holds banks.now registers.old rights.now waits.now counts.old) × (length cds.old ≡ length cdm.now) × (length cdm.now ≤ column_limit) }
     ensures { Rowed banks.now rights.now waits.now registers.old cdm.now registers.new counts.new cds.new }
 {
-    clear(cds);
+    cds.fill(0);
     let mut at = 0;
-    let mut i = 0;
-    while i < banks.len() {
-        let end = at + size_of(banks[i]);
+    for (i, count) in banks.iter().enumerate() {
+        let end = at + size_of(*count);
         let from = CODES * i;
         let to = from + CODES;
         pass_slave(
-            banks[i],
+            *count,
             &rights[at..end],
             waits[i],
             &mut registers[at..end],
@@ -189,34 +166,10 @@ fn answer_row(
             cds,
         );
         at = end;
-        i += 1;
     }
 }
 
-// "the bit enters at the far end as 0".
-fn clear(cds: &mut [u8])
-    ensures { cds.new ≡ replicate (length cds.old) 0 }
-{
-    let mut i = 0;
-    while i < cds.len() {
-        cds[i] = 0;
-        i += 1;
-    }
-}
-
-// Request 07: "from 0 in each run".
-fn clear_counts(counts: &mut [u32])
-    requires { length counts.old ≡ command_count }
-    ensures { counts.new ≡ uncounted }
-{
-    counts[0] = 0;
-    counts[1] = 0;
-    counts[2] = 0;
-    counts[3] = 0;
-}
-
-// One slave over the whole row: `cds` holds its far neighbour's bits, and its own afterwards. `at` is the place that the address `known`
-// shows: it stays while the slave is at that address, since a store there chooses a bank for other addresses alone.
+// One slave over the whole row: `cds` holds its far neighbour's bits, and its own afterwards.
 fn pass_slave(
     banks: u8,
     rights: &[u8],
@@ -229,101 +182,96 @@ fn pass_slave(
     requires { (length registers.old ≡ size_of banks) × (length rights.now ≡ size_of banks) × (length counts.old ≡ command_count) × (length cds.old ≡ length cdm.now) × (length cdm.now ≤ column_limit) }
     ensures { Passed banks rights.now wait registers.old cdm.now cds.old registers.new counts.new cds.new }
 {
-    clear_counts(counts);
+    counts.fill(0);
     let mut slave = Slave::new();
-    let mut known = 0;
-    let mut at = shown(banks, registers[BANK * banks as usize], known);
-    let mut i = 0;
-    while i < cdm.len() {
-        let master = cdm[i] == 1;
+    // `cds` is written by its index, here as in `keep`: of what an `iter_mut` or a `get_mut` left a proof knows no element.
+    for (i, bit) in cdm.iter().enumerate() {
+        let master = *bit == 1;
         let far = cds[i] == 1;
         if slave.silent() {
-            let next = slave.heard(master);
-            slave = next;
+            slave.heard(master);
             cds[i] = far as u8;
         } else {
-            let address = slave.address();
-            at = found(banks, registers, known, at, address);
-            known = address;
-            let seen = sees(master, far, rights, registers, at, wait);
-            let turn = slave.step(seen);
-            cds[i] = turn.sent as u8;
-            keep(registers, at, turn.byte);
-            count(counts, turn.ran);
-            let next = turn.next;
-            slave = next;
+            let place = found(banks, registers, slave.address());
+            let reply = slave.take(sees(master, far, rights, registers, place, wait));
+            cds[i] = reply.sent as u8;
+            keep(registers, place, reply.stored);
+            count(counts, reply.ran);
         }
-        i += 1;
     }
 }
 
-// The place that an address shows now; that of `known` is at hand.
-fn found(banks: u8, registers: &[u8], known: usize, at: usize, address: usize) -> usize
-    requires { (length registers.now ≡ size_of banks) × (at ≡ shown_in banks registers.now known) × (address < address_count) }
-    ensures { result ≡ shown_in banks registers.now address }
+// The place of the register that a slave looks at, if it looks at one and its address shows one now.
+fn found(banks: u8, registers: &[u8], address: Option<usize>) -> Option<usize>
+    requires { (length registers.now ≡ size_of banks) × IfSome address (λ a. a < address_count) }
+    ensures { option_of result ≡ shown_in banks registers.now address }
 {
-    if address == known {
-        at
-    } else {
-        shown(banks, registers[BANK * banks as usize], address)
-    }
+    shown(banks, registers[BANK * banks as usize], address?)
 }
 
-// The place that an address shows in a slave's registers, or the one past them where it shows none (protocol's specs/Memory).
-fn shown(banks: u8, chosen: u8, address: usize) -> usize
+// The place that an address shows in a slave's registers, if it shows one (protocol's specs/Memory).
+fn shown(banks: u8, chosen: u8, address: usize) -> Option<usize>
     requires { address < address_count }
-    ensures { result ≡ shown_at banks chosen address }
+    ensures { option_of result ≡ place_of banks chosen address }
 {
-    let fixed = BANK * banks as usize;
-    let past = size_of(banks);
     if address < BANK {
-        if chosen < banks {
-            BANK * chosen as usize + address
-        } else {
-            past
-        }
-    } else if address == BANK_REGISTER {
-        if banks == 1 { past } else { fixed }
+        (chosen < banks).then_some(BANK * chosen as usize + address)
+    } else if address == BANK_REGISTER && banks == 1 {
+        None
     } else {
-        fixed + (address - BANK)
+        Some(BANK * banks as usize + (address - BANK))
     }
 }
 
 // What a slave sees in a column: the bits, and what lies at a place.
-fn sees(master: bool, far: bool, rights: &[u8], registers: &[u8], at: usize, wait: u8) -> Seen
-    ensures { result ≡ seen_by master far rights.now registers.now at wait }
+fn sees(
+    master: bool,
+    far: bool,
+    rights: &[u8],
+    registers: &[u8],
+    place: Option<usize>,
+    wait: u8,
+) -> Seen
+    ensures { result ≡ seen_by master far rights.now registers.now (option_of place) wait }
 {
     Seen {
-        master: master,
-        far: far,
-        right: held(rights, at),
-        byte: held(registers, at),
-        wait: wait,
+        master,
+        far,
+        right: held(rights, place),
+        byte: held(registers, place),
+        wait,
     }
 }
 
-// The byte at a place; past the end there is 0.
-fn held(bytes: &[u8], at: usize) -> u8
-    ensures { result ≡ get_or bytes.now at 0 }
+// The byte at a place; where there is none it is 0.
+fn held(bytes: &[u8], place: Option<usize>) -> u8
+    ensures { result ≡ at bytes.now (option_of place) }
 {
-    if at < bytes.len() { bytes[at] } else { 0 }
+    match place {
+        Some(i) => bytes.get(i).copied().unwrap_or(0),
+        None => 0,
+    }
 }
 
-// The byte stands at the place from now on; past the end nothing is stored.
-fn keep(registers: &mut [u8], at: usize, byte: u8)
-    ensures { registers.new ≡ set registers.old at byte }
+// A byte that is stored stands at the place from now on; where there is none nothing is stored.
+fn keep(registers: &mut [u8], place: Option<usize>, stored: Option<u8>)
+    ensures { registers.new ≡ kept registers.old (option_of place) stored }
 {
-    if at < registers.len() {
-        registers[at] = byte;
+    if let (Some(i), Some(byte)) = (place, stored) {
+        if i < registers.len() {
+            registers[i] = byte;
+        }
     }
 }
 
 // One execution more of a command, where one was executed: in a column at most one, so that no count outgrows the columns.
-fn count(counts: &mut [u32], ran: usize)
-    requires { (length counts.old ≡ command_count) × (get_or counts.old ran 0 < column_limit) }
+fn count(counts: &mut [u32], ran: Option<usize>)
+    requires { (length counts.old ≡ command_count) × ((code : ℕ) → get_or counts.old code 0 < column_limit) }
     ensures { counts.new ≡ counts_by ran counts.old }
 {
-    if ran < CODES {
-        counts[ran] = counts[ran] + 1;
+    if let Some(code) = ran {
+        if code < counts.len() {
+            counts[code] += 1;
+        }
     }
 }

@@ -1,39 +1,42 @@
 -- The columns of a register access, a law for each branch of the code, in the branch's own words. Assumes nothing.
 use mathlib.Core.Path.{◌≡◌, refl, sym, ap, ◌∙◌}
-use mathlib.Core.Bool.{Bool, true, false, not, ◌&&◌, beq, and-true, and-false, false≢true}
+use mathlib.Core.Bool.{Bool, true, false, not, ◌&&◌, beq}
+use Rattle.std.specs.Prelude.{Some}
+use Rattle.std.specs.Bool.{then_some}
 use Prim.Native.Nat.{ℕ, zero, suc, ◌+◌, ◌-◌, ◌/◌, ◌%◌, ◌^◌, ◌≤◌, ◌<◌}
 use native.Mathlib.Omega.{arith}
-use borrow.Author.Tests.{lt-ltb, le-ltb, ltb-true}
+use borrow.Author.Tests.{lt-ltb, le-ltb, eq-eqb, ne_eqb, ltb-true, ltb-false}
 use lib.Dec.{ltb, eqb}
 use Rattle.protocol.specs.Limits.{address_count, byte_limit}
 use Rattle.protocol.specs.Bits.{num, bit, push}
 use Rattle.protocol.specs.Division.{data_bits, check_width, top_bit, word, fits, byte_of}
-use Rattle.protocol.specs.Memory.{Memory, stored, delay_by, delay}
+use Rattle.protocol.specs.Memory.{Memory, delay_by, delay}
 use Rattle.protocol.specs.Slave as protocol
-use Rattle.slave.specs.Code.{address_by, counts, before, next_address, SeenIn, goes_on}
-use Rattle.slave.specs.declared.Body.{Body}
+use Rattle.laws.proofs.Every.{both, tested}
+use Rattle.slave.specs.Code.{counts, before, stored_by, next_address, SeenAt, goes_on}
+use Rattle.slave.specs.declared.phase.Passed.{Passed}
 use Rattle.slave.specs.declared.Seen.{Seen}
 
 -- What is seen is how long the memory waits.
-seen_delay : (k : Memory) (write : Bool) (address nth : ℕ) (seen : Seen) → SeenIn k address seen
+seen_delay : (k : Memory) (write : Bool) (address nth : ℕ) (seen : Seen) → SeenAt k address seen
     → delay k write nth ≡ delay_by seen.wait write nth
 unfolding delay
 seen_delay k write address nth seen s = ap (λ (w : ℕ). delay_by w write nth) s.wait_there
 
 -- W: R and W alike; the right allows the access; it does not.
-pub ask_alike : (k : Memory) (address : ℕ) (r m b : Bool) → beq r m ≡ true
+pub ask_alike : (k : Memory) (address : ℕ) (r m b : Bool) → not (beq r m) ≡ false
     → protocol.speak k (protocol.ask_w address r) m b ≡ protocol.turn protocol.deaf (not m) k
 unfolding protocol.speak
 ask_alike k address r m b h = rw h
 
 module _ (k : Memory) (address : ℕ) (r b : Bool) (seen : Seen) where
-  pub ask_allowed : {f : Bool} → SeenIn k address seen → beq r seen.master ≡ false
+  pub ask_allowed : {f : Bool} → SeenAt k address seen → not (beq r seen.master) ≡ true
       → f ≡ bit (num seen.master) seen.right → f ≡ true
       → protocol.speak k (protocol.ask_w address r) seen.master b ≡ protocol.turn (protocol.byte_s seen.master address 1 0) seen.master k
   unfolding protocol.speak
   ask_allowed s h e t = rw (h, s.right_there seen.master, ← e, t)
 
-  pub ask_refused : {f : Bool} → SeenIn k address seen → beq r seen.master ≡ false
+  pub ask_refused : {f : Bool} → SeenAt k address seen → not (beq r seen.master) ≡ true
       → f ≡ bit (num seen.master) seen.right → f ≡ false
       → protocol.speak k (protocol.ask_w address r) seen.master b ≡ protocol.turn protocol.deaf (not seen.master) k
   unfolding protocol.speak
@@ -45,7 +48,7 @@ module _ (k : Memory) (address nth unconfirmed : ℕ) (write b : Bool) {m : Bool
   unfolding protocol.speak
   byte_ends e = rw e
 
-  module _ (seen : Seen) {d : ℕ} (s : SeenIn k address seen) (e : m ≡ true) (p : d ≡ delay_by seen.wait write nth) where
+  module _ (seen : Seen) {d : ℕ} (s : SeenAt k address seen) (e : m ≡ true) (p : d ≡ delay_by seen.wait write nth) where
     pub byte_waits : unconfirmed < d
         → protocol.speak k (protocol.byte_s write address nth unconfirmed) m b
         ≡ protocol.turn (protocol.byte_s write address nth (unconfirmed + 1)) false k
@@ -83,11 +86,11 @@ module _ (k : Memory) (a nth w : ℕ) (m b : Bool) (left : ℕ) where
       go zero h l = absurd (h refl)
       go (suc n) h l = let e : (suc n - 1) % counts ≡ n = omega arith in rw e
 
-  pub sends_last : {x : ℕ} → left % counts ≡ 0 → x ≡ next_address a
+  pub sends_last : left % counts ≡ 0
       → protocol.speak k (protocol.sends (a % address_count) nth (left % counts) w) m b
-      ≡ protocol.turn (protocol.ask_p false true (before (x % address_count)) nth) (eqb (w / 2 ^ (left % counts) % 2) 1) k
+      ≡ protocol.turn (protocol.ask_p false true (before (next_address a % address_count)) nth) (eqb (w / 2 ^ (left % counts) % 2) 1) k
   unfolding protocol.speak bit
-  sends_last h e = rw (h, e, around a)
+  sends_last h = rw (h, around a)
 
 -- The bits of a byte that is written; the last, with the check right and wrong.
 module _ (k : Memory) (a nth w : ℕ) (m b : Bool) (left : ℕ) {w' : ℕ} where
@@ -103,90 +106,60 @@ module _ (k : Memory) (a nth w : ℕ) (m b : Bool) (left : ℕ) {w' : ℕ} where
       go zero h l = absurd (omega arith)
       go (suc n) h l = let q : (suc n - 1) % counts ≡ n = omega arith in rw (q, e)
 
-  pub takes_good : {x : ℕ} {f : Bool} → left % counts ≤ 0 → w' ≡ push w m → x ≡ next_address a
-      → f ≡ fits data_bits w' → f ≡ true
+  pub takes_last : {f : Bool} → left % counts ≤ 0 → w' ≡ push w m → f ≡ fits data_bits w'
       → protocol.speak k (protocol.takes (a % address_count) nth (left % counts) w) m b
-      ≡ protocol.turn (protocol.ask_p true true (before (x % address_count)) nth) m (stored k (a % address_count) (w' / 2 ^ check_width % 2 ^ data_bits))
+      ≡ protocol.turn (protocol.ask_p true f (before (next_address a % address_count)) nth) m
+      (stored_by (then_some f (w' / 2 ^ check_width % 2 ^ data_bits)) (Some (a % address_count)) k)
   unfolding protocol.speak byte_of
-  takes_good h e g p q =
-      let none_left : left % counts ≡ 0 = omega arith in rw (none_left, ← e, ← p, q, g, around a)
+  takes_last {f} h e p =
+      let none_left : left % counts ≡ 0 = omega arith in
+      rw (none_left, ← e, ← p, around a) (tested f (λ q. rw q) (λ q. rw q))
 
-  pub takes_bad : {x : ℕ} {f : Bool} → left % counts ≤ 0 → w' ≡ push w m → x ≡ next_address a
-      → f ≡ fits data_bits w' → f ≡ false
-      → protocol.speak k (protocol.takes (a % address_count) nth (left % counts) w) m b
-      ≡ protocol.turn (protocol.ask_p true false (before (x % address_count)) nth) m k
-  unfolding protocol.speak
-  takes_bad h e g p q =
-      let none_left : left % counts ≡ 0 = omega arith in rw (none_left, ← e, ← p, q, g, around a)
+-- P: the next address exists where it is not 0.
+there_is : (address : ℕ) → ltb (before (address % address_count) + 1) address_count ≡ not (eqb (address % address_count) 0)
+there_is address =
+    tested (ltb (before (address % address_count) + 1) address_count)
+    (λ q. let l : before (address % address_count) + 1 < address_count = ltb-true _ _ q in rw (q, ne_eqb (address % address_count) 0 (omega arith)))
+    (λ q. let l : address_count ≤ before (address % address_count) + 1 = ltb-false _ _ q in rw (q, eq-eqb (address % address_count) 0 (omega arith)))
 
-left_true : (x y : Bool) → (x && y) ≡ true → x ≡ true
-left_true true y e = refl
-left_true false y e = absurd (false≢true e)
-
-right_true : (x y : Bool) → (x && y) ≡ true → y ≡ true
-right_true true y e = e
-right_true false y e = absurd (false≢true e)
-
--- P, whether it goes on: the byte was bad; the next address does not exist; too many bytes; its right decides.
-module _ (b : Body) (right : ℕ) where
-  pub on_bad : b.good ≡ false → false ≡ goes_on b right
-  unfolding goes_on
-  on_bad h = rw h
-
-  pub on_past : b.good ≡ true → address_by b ≡ 0 → false ≡ goes_on b right
-  unfolding goes_on
-  on_past h e = rw (h, e)
-
-  pub on_many : b.good ≡ true → byte_limit ≤ b.nth → false ≡ goes_on b right
-  unfolding goes_on
-  on_many h l =
-      rw (h, le-ltb b.nth byte_limit l)
-      (sym (and-false (ltb (before (address_by b) + 1) address_count && bit (num b.write) right)))
-
-  pub on_right : {f : Bool} → b.good ≡ true → (address_by b ≡ 0 → ⊥) → b.nth < byte_limit → f ≡ bit (num b.write) right
-      → f ≡ goes_on b right
-  unfolding goes_on
-  on_right h e l g =
-      rw (h, lt-ltb (before (address_by b) + 1) address_count (omega arith), lt-ltb b.nth byte_limit l, ← g) (sym (and-true _))
-
-  -- Where it goes on, few bytes have passed, and the body's is the next address.
-  pub on_few : goes_on b right ≡ true → b.nth < byte_limit
-  unfolding goes_on
-  on_few h =
-      let near : Bool = ltb (before (address_by b) + 1) address_count in
-      ltb-true _ _ (right_true (near && bit (num b.write) right) _ (right_true b.good _ h))
-
-  on_near : goes_on b right ≡ true → before (address_by b) + 1 ≡ address_by b
-  unfolding goes_on
-  on_near h =
-      let near : Bool = ltb (before (address_by b) + 1) address_count in
-      let right_there : Bool = bit (num b.write) right in
-      let e : near ≡ true = left_true near right_there (left_true (near && right_there) _ (right_true b.good _ h)) in
-      let l : before (address_by b) + 1 < address_count = ltb-true _ _ e in
-      omega arith
+pub goes_on_is : (p : Passed) (right : ℕ) {good there allowed : Bool} → p.good ≡ good → not (eqb (p.next % address_count) 0) ≡ there
+    → bit (num p.write) right ≡ allowed → (good && (there && allowed && ltb p.nth byte_limit)) ≡ goes_on p right
+unfolding goes_on
+goes_on_is p right g t a = rw (← g, ← t, ← a, there_is p.next)
 
 -- P, as the code goes by it and as protocol does.
-more_is : (k : Memory) (b : Body) (seen : Seen) → SeenIn k (address_by b) seen
-    → (b.good && protocol.more k b.write (before (address_by b)) b.nth) ≡ goes_on b seen.right
+on_near : (p : Passed) (right : ℕ) → goes_on p right ≡ true → before (p.next % address_count) + 1 ≡ p.next % address_count
+unfolding goes_on
+on_near p right h =
+    let near : Bool = ltb (before (p.next % address_count) + 1) address_count in
+    let e : near ≡ true = (both near _ (both _ _ (both p.good _ h).1).0).0 in
+    let l : before (p.next % address_count) + 1 < address_count = ltb-true _ _ e in
+    omega arith
+
+-- Where it goes on, few bytes have passed.
+pub on_few : (p : Passed) (right : ℕ) → goes_on p right ≡ true → p.nth < byte_limit
+unfolding goes_on
+on_few p right h = ltb-true _ _ (both _ _ (both p.good _ h).1).1
+
+more_is : (k : Memory) (p : Passed) (seen : Seen) → SeenAt k (p.next % address_count) seen
+    → (p.good && protocol.more k p.write (before (p.next % address_count)) p.nth) ≡ goes_on p seen.right
 unfolding goes_on protocol.more
-more_is k b seen s = go (ltb (before (address_by b) + 1) address_count) refl
-  where
-    go : (x : Bool) → ltb (before (address_by b) + 1) address_count ≡ x
-        → (b.good && protocol.more k b.write (before (address_by b)) b.nth) ≡ goes_on b seen.right
-    go true e =
-        let l : before (address_by b) + 1 < address_count = ltb-true _ _ e in
-        let here : before (address_by b) + 1 ≡ address_by b = omega arith in
-        rw (here, s.right_there b.write)
-    go false e = rw e
+more_is k p seen s =
+    tested (ltb (before (p.next % address_count) + 1) address_count)
+    (λ e.
+    let l : before (p.next % address_count) + 1 < address_count = ltb-true _ _ e in
+    let here : before (p.next % address_count) + 1 ≡ p.next % address_count = omega arith in
+    rw (here, s.right_there p.write))
+    (λ e. rw e)
 
-module _ (k : Memory) (b : Body) (m far : Bool) (seen : Seen) {f : Bool} where
-  pub asks_on : SeenIn k (address_by b) seen → f ≡ goes_on b seen.right → f ≡ true
-      → protocol.speak k (protocol.ask_p b.write b.good (before (address_by b)) b.nth) m far
-      ≡ protocol.turn (protocol.byte_s b.write (address_by b) (b.nth + 1) 0) false k
+module _ (k : Memory) (p : Passed) (m far : Bool) (seen : Seen) {f : Bool} where
+  pub asks_on : SeenAt k (p.next % address_count) seen → f ≡ goes_on p seen.right → f ≡ true
+      → protocol.speak k (protocol.ask_p p.write p.good (before (p.next % address_count)) p.nth) m far
+      ≡ protocol.turn (protocol.byte_s p.write (p.next % address_count) (p.nth + 1) 0) false k
   unfolding protocol.speak
-  asks_on s e t = rw (more_is k b seen s, ← e, t, on_near b seen.right (sym e ∙ t))
+  asks_on s e t = rw (more_is k p seen s, ← e, t, on_near p seen.right (sym e ∙ t))
 
-  pub asks_end : SeenIn k (address_by b) seen → f ≡ goes_on b seen.right → f ≡ false
-      → protocol.speak k (protocol.ask_p b.write b.good (before (address_by b)) b.nth) m far ≡ protocol.turn protocol.deaf true k
+  pub asks_end : SeenAt k (p.next % address_count) seen → f ≡ goes_on p seen.right → f ≡ false
+      → protocol.speak k (protocol.ask_p p.write p.good (before (p.next % address_count)) p.nth) m far ≡ protocol.turn protocol.deaf true k
   unfolding protocol.speak
-  asks_end s e t = rw (more_is k b seen s, ← e, t)
+  asks_end s e t = rw (more_is k p seen s, ← e, t)

@@ -9,7 +9,7 @@ use Rattle.laws.proofs.Unique.{one_result}
 use Rattle.slave.specs.Code.{state_of, address_of, heard_by, says_nothing, SeenIn, step_of, Steps}
 use Rattle.slave.specs.declared.Slave.{Slave}
 use Rattle.slave.specs.declared.Seen.{Seen}
-use Rattle.slave.specs.declared.Turn.{Turn}
+use Rattle.slave.specs.declared.Reply.{Reply}
 
 new_unique : (a b : Slave) → state_of a ≡ power_on → state_of b ≡ power_on → state_of a ≡ state_of b
 new_unique a b p q = one_result p q
@@ -21,6 +21,6 @@ heard_unique : (s : Slave) (m : Bool) (a b : Slave) → state_of a ≡ heard_by 
 heard_unique s m a b p q = one_result p q
 
 -- Over any memory that shows what was seen.
-step_unique : (s : Slave) (seen : Seen) (a b : Turn) → Steps s seen a → Steps s seen b → (k : Memory) → SeenIn k (address_of s) seen
+step_unique : (s : Slave) (seen : Seen) (a b : Slave × Reply) → Steps s seen a → Steps s seen b → (k : Memory) → SeenIn k (address_of s) seen
     → step_of k (address_of s) a ≡ step_of k (address_of s) b
 step_unique s seen a b p q k there = one_result (sym (p.over k there)) (sym (q.over k there))

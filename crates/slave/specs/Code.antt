@@ -1,35 +1,38 @@
 -- What the code's slave stands for in protocol's definitions, for the contracts: nothing here is needed to read what run promises.
 -- Every value of the types stands for something, so that no contract asks for a good state.
-use Rattle.std.specs.Prelude.{◌≡◌, Bool, true, false, cond, ◌&&◌, ℕ, ◌+◌, ◌-◌, ◌/◌, ◌%◌, ◌^◌, min, ltb}
+use Rattle.std.specs.Prelude.{◌≡◌, Bool, true, false, ◌&&◌, ℕ, ◌+◌, ◌-◌, ◌%◌, min, ltb, Option as Maybe, Some, None}
 use Rattle.std.proofs.Math.Option.{Option, none, some}
-use Rattle.protocol.specs.Limits.{header_columns, id_count, address_count, byte_limit, command_count}
+use Rattle.protocol.specs.Limits.{header_columns, address_count, byte_limit}
 use Rattle.protocol.specs.Bits.{num, bit}
 use Rattle.protocol.specs.Rest.{Timed, power, rest, frame, Judged, still, ends, meant, judge}
-use Rattle.protocol.specs.Division.{check_width}
-use Rattle.protocol.specs.Header.{header}
-use Rattle.protocol.specs.Commands.{concerns}
+use Rattle.protocol.specs.Division.{top_bit}
 use Rattle.protocol.specs.Memory.{Memory, allows, holds, stored, counted}
 use Rattle.protocol.specs.Slave as protocol
 use Rattle.protocol.specs.Slave.{deaf, locks, head, ask_r, ask_w, byte_s, sends, takes, ask_p, acknowledge, ask_ex}
-use Rattle.machine.specs.Zeros.{timed, judged_at}
-use Rattle.slave.specs.declared.Phase.{Phase}
-use Rattle.slave.specs.declared.Phase.TheVariants.{Power, Rest, Deaf, Locks, Head, AskR, AskW, ByteS, Sends, Takes, AskP}
-use Rattle.slave.specs.declared.Phase.TheVariants.{Acknowledge, AskEX}
-use Rattle.slave.specs.declared.Body.{Body}
+use Rattle.slave.specs.declared.number.Number.{Number}
+use Rattle.slave.specs.declared.phase.Phase.{Phase}
+use Rattle.slave.specs.declared.phase.Phase.TheVariants.{Deaf, Locks, Head, AskR, AskW, ByteS, Sends, Takes, AskP, Acknowledge, AskEX}
+use Rattle.slave.specs.declared.phase.Asked.{Asked}
+use Rattle.slave.specs.declared.phase.Byte.{Byte}
+use Rattle.slave.specs.declared.phase.Passed.{Passed}
 use Rattle.slave.specs.declared.Slave.{Slave}
+use Rattle.slave.specs.declared.Form.{Form}
+use Rattle.slave.specs.declared.Form.TheVariants.{Power, Rest, Frame}
 use Rattle.slave.specs.declared.Seen.{Seen}
-use Rattle.slave.specs.declared.Turn.{Turn}
+use Rattle.slave.specs.declared.Reply.{Reply}
 use Rattle.slave.specs.declared.header.Lock.{Lock}
 
--- An ID, where the number is one; any other number stands for none.
-abbrev pub number_of : ℕ → Option ℕ
-number_of n = cond (ltb n id_count) (some n) none
+-- What the code holds or does not hold, as protocol's definitions have it.
+abbrev pub option_of : {A : Type 0} → Maybe A → Option A
+option_of None = none
+option_of (Some x) = some x
 
--- The address that a body is at.
-abbrev pub address_by : Body → ℕ
-address_by b = b.address % address_count
+-- The ID that a slave holds.
+abbrev pub number_of : Maybe Number → Option ℕ
+number_of None = none
+number_of (Some own) = some own.value
 
--- The address before an address, round the end: in AskP the body's is the next one.
+-- The address before an address, round the end: in AskP the phase has the next one.
 abbrev pub before : ℕ → ℕ
 before address = (address + (address_count - 1)) % address_count
 
@@ -37,52 +40,56 @@ before address = (address + (address_count - 1)) % address_count
 abbrev pub next_address : ℕ → ℕ
 next_address address = (address % address_count + 1) % address_count
 
--- A header's columns end at header_columns; the locks' count leads at most one further.
-abbrev pub next_column : ℕ → ℕ
-next_column column = min column header_columns + 1
-
 -- A byte's bits are counted down from top_bit; a count is read below the next power of two.
 abbrev pub counts : ℕ
 counts = 16
 
--- The bits of a byte that are still to come.
-abbrev pub left_of : Body → ℕ
-left_of b = b.left % counts
+-- What a phase is with its numbers: a header's columns end at header_columns, and the locks' count leads at most one further.
+abbrev pub phase_of : Phase → protocol.Phase
+phase_of Deaf = protocol.deaf
+phase_of (Locks h) = protocol.locks (min h.column header_columns) h.word (number_of h.number)
+phase_of (Head h) = protocol.head (min h.column (header_columns + 1)) h.word (number_of h.number)
+phase_of (AskR address) = protocol.ask_r (address % address_count)
+phase_of (AskW address r) = protocol.ask_w (address % address_count) r
+phase_of (ByteS s) = protocol.byte_s s.write (s.address % address_count) s.nth s.unconfirmed
+phase_of (Sends b) = protocol.sends (b.address % address_count) b.nth (b.left % counts) b.word
+phase_of (Takes b) = protocol.takes (b.address % address_count) b.nth (b.left % counts) b.word
+phase_of (AskP p) = protocol.ask_p p.write p.good (before (p.next % address_count)) p.nth
+phase_of (Acknowledge c) = protocol.acknowledge c.column c.ids c.cmd (number_of c.number)
+phase_of (AskEX cmd concerned) = protocol.ask_ex cmd concerned
 
--- The IDS and the CMD of a header's word.
-abbrev pub ids_of : (word : ℕ) → ℕ
-ids_of word = word / 2 ^ check_width / 2 ^ 2 % 2 ^ 8
+-- The address of the register that a phase looks at, if it looks at one ..
+abbrev pub address_by : Phase → Maybe ℕ
+address_by Deaf = None
+address_by (Locks h) = None
+address_by (Head h) = None
+address_by (AskR address) = None
+address_by (AskW address r) = Some (address % address_count)
+address_by (ByteS s) = Some (s.address % address_count)
+address_by (Sends b) = None
+address_by (Takes b) = Some (b.address % address_count)
+address_by (AskP p) = Some (p.next % address_count)
+address_by (Acknowledge c) = None
+address_by (AskEX cmd concerned) = None
 
-abbrev pub cmd_of : (word : ℕ) → ℕ
-cmd_of word = word / 2 ^ check_width % 2 ^ 2
+-- .. and that a slave looks at.
+abbrev pub address_in : Form → Phase → Maybe ℕ
+address_in Power p = None
+address_in Rest p = None
+address_in Frame p = address_by p
 
--- What a phase is with its numbers, no zeros counted ..
-abbrev pub form_by : Phase → Body → Timed protocol.Phase
-form_by Power b = power 0
-form_by Rest b = rest
-form_by Deaf b = frame 0 protocol.deaf
-form_by Locks b = frame 0 (protocol.locks (min b.column header_columns) b.word (number_of b.number))
-form_by Head b = frame 0 (protocol.head (min b.column (header_columns + 1)) b.word (number_of b.number))
-form_by AskR b = frame 0 (protocol.ask_r (address_by b))
-form_by AskW b = frame 0 (protocol.ask_w (address_by b) b.write)
-form_by ByteS b = frame 0 (protocol.byte_s b.write (address_by b) b.nth b.word)
-form_by Sends b = frame 0 (protocol.sends (address_by b) b.nth (left_of b) b.word)
-form_by Takes b = frame 0 (protocol.takes (address_by b) b.nth (left_of b) b.word)
-form_by AskP b = frame 0 (protocol.ask_p b.write b.good (before (address_by b)) b.nth)
-form_by Acknowledge b = frame 0 (protocol.acknowledge b.column (ids_of b.word) (cmd_of b.word) (number_of b.number))
-form_by AskEX b = frame 0 (protocol.ask_ex (cmd_of b.word) (concerns (ids_of b.word) (number_of b.number)))
+abbrev pub address_of : Slave → Maybe ℕ
+address_of s = address_in s.form s.phase
 
--- .. and with as many zeros in a row as it saw just now.
-abbrev pub state_by : Phase → (zeros : ℕ) → Body → Timed protocol.Phase
-state_by phase zeros b = timed zeros (form_by phase b)
+-- What a slave of the code stands for: of its parts ..
+abbrev pub state_by : Form → (zeros : ℕ) → Phase → Timed protocol.Phase
+state_by Power z p = power z
+state_by Rest z p = rest
+state_by Frame z p = frame z (phase_of p)
 
--- What a slave of the code stands for ..
+-- .. and of itself.
 abbrev pub state_of : Slave → Timed protocol.Phase
-state_of s = state_by s.phase s.zeros s.body
-
--- .. and the address that it is at.
-abbrev pub address_of : Slave → ℕ
-address_of s = address_by s.body
+state_of s = state_by s.form s.zeros s.phase
 
 -- What a column makes of a slave with nothing to say, once it is judged ..
 abbrev pub unsaid : Judged protocol.Phase → Timed protocol.Phase
@@ -90,14 +97,9 @@ unsaid (still s) = s
 unsaid ends = rest
 unsaid (meant z p) = frame z p
 
--- .. from the column ..
+-- .. from the column.
 unfoldable pub heard_by : Timed protocol.Phase → (m : Bool) → Timed protocol.Phase
 heard_by s m = unsaid (judge protocol.begun s m)
-
--- .. and, of all but rest, from the zeros counted: none is the fourteenth.
-abbrev pub waited_by : Option ℕ → Timed protocol.Phase → Timed protocol.Phase
-waited_by none s = rest
-waited_by (some z) s = timed z s
 
 -- A phase in which a slave does not speak.
 abbrev pub is_deaf : protocol.Phase → Bool
@@ -119,33 +121,52 @@ says_nothing (power z) = true
 says_nothing rest = true
 says_nothing (frame z p) = is_deaf p
 
--- A turn of its parts, in which no command is executed.
-abbrev pub turned : Phase → (zeros : ℕ) → Body → (sent : Bool) → (byte : ℕ) → Turn
-turned phase zeros b sent byte =
-    record { next = record { phase = phase; zeros = zeros; body = b }; sent = sent; byte = byte; ran = command_count }
+-- A bit and nothing else ..
+abbrev pub passed_on : (sent : Bool) → Reply
+passed_on sent = record { sent = sent; stored = None; ran = None }
 
--- What was seen at an address is what a slave's memory allows and holds there, and its waiting number.
-pub record SeenIn (k : Memory) (address : ℕ) (seen : Seen) : Type 0 where
+-- .. beside the next phase.
+abbrev pub said : (next : Phase) → (sent : Bool) → Phase × Reply
+said next sent = (next, passed_on sent)
+
+-- What was seen at an address is what a slave's memory allows and holds there, and its waiting number ..
+pub record SeenAt (k : Memory) (address : ℕ) (seen : Seen) : Type 0 where
   pub right_there : (write : Bool) → allows k write address ≡ bit (num write) seen.right
   pub byte_there : holds k address ≡ seen.byte
   pub wait_there : k.wait ≡ seen.wait
 
--- A memory after the execution of a code; a number that is none executes nothing.
-abbrev pub ran_by : (code : ℕ) → Memory → Memory
-ran_by code k = cond (ltb code command_count) (counted k code) k
+-- .. where a slave looks at one; else it may be anything.
+abbrev pub SeenIn : Memory → (address : Maybe ℕ) → Seen → Type 0
+SeenIn k None seen = Unit {0}
+SeenIn k (Some address) seen = SeenAt k address seen
 
--- The step of protocol's slave that a turn stands for: the byte stands at the address, a code is executed, and nothing else changes.
-abbrev pub step_of : Memory → (address : ℕ) → Turn → protocol.Step
-step_of k address r =
-    record { state = state_of r.next; says = protocol.reply r.sent (ran_by r.ran (stored k address r.byte)) }
+-- A memory in which a byte is stored at an address, or none ..
+abbrev pub stored_by : Maybe ℕ → (address : Maybe ℕ) → Memory → Memory
+stored_by None address k = k
+stored_by (Some byte) None k = k
+stored_by (Some byte) (Some address) k = stored k address byte
+
+-- .. and after the execution of a code, or of none.
+abbrev pub ran_by : Maybe ℕ → Memory → Memory
+ran_by None k = k
+ran_by (Some code) k = counted k code
+
+-- A memory after a reply: its byte is stored, its code is executed, and nothing else changes.
+abbrev pub left_by : Reply → (address : Maybe ℕ) → Memory → Memory
+left_by r address k = ran_by r.ran (stored_by r.stored address k)
 
 -- What a phase's function promises, of a column that is not the fourteenth zero.
-pub record Meets (phase : Phase) (zeros : ℕ) (b : Body) (seen : Seen) (r : Turn) : Type 0 where
-  pub over : (k : Memory) → SeenIn k (address_by b) seen
-      → protocol.stepped k (judged_at protocol.begun (state_by phase zeros b) seen.master) seen.master seen.far ≡ step_of k (address_by b) r
+pub record Meets (phase : Phase) (seen : Seen) (r : Phase × Reply) : Type 0 where
+  pub over : (k : Memory) → SeenIn k (address_by phase) seen
+      → protocol.speak k (phase_of phase) seen.master seen.far
+      ≡ protocol.turn (phase_of r.0) r.1.sent (left_by r.1 (address_by phase) k)
+
+-- The step of protocol's slave that a next state and a reply stand for.
+abbrev pub step_of : Memory → (address : Maybe ℕ) → Slave × Reply → protocol.Step
+step_of k address r = record { state = state_of r.0; says = protocol.reply r.1.sent (left_by r.1 address k) }
 
 -- What step promises: the step of protocol's slave, over any memory that has what was seen at its address.
-pub record Steps (s : Slave) (seen : Seen) (r : Turn) : Type 0 where
+pub record Steps (s : Slave) (seen : Seen) (r : Slave × Reply) : Type 0 where
   pub over : (k : Memory) → SeenIn k (address_of s) seen
       → protocol.step (protocol.slave k (state_of s)) seen.master seen.far ≡ step_of k (address_of s) r
 
@@ -154,19 +175,19 @@ abbrev pub lock_of : Lock → protocol.Lock
 lock_of l = record { number = number_of l.number; sent = l.sent }
 
 -- .. and the lock that a column makes.
-unfoldable pub locked_as : (column number : ℕ) → Bool → protocol.Lock
+unfoldable pub locked_as : (column : ℕ) → Maybe Number → Bool → protocol.Lock
 locked_as column number far = protocol.lock (min column header_columns) (number_of number) far
 
--- The phase in which a header's word leaves the slave of a number, with a body that has the word's address and begins to count columns.
-pub record CalledAs (word number : ℕ) (phase : Phase) : Type 0 where
-  pub over : (b : Body) → b.word ≡ word → b.number ≡ number → b.address ≡ word / 2 ^ check_width % address_count → b.column ≡ 0
-      → form_by phase b ≡ frame 0 (protocol.called (header word) (number_of number))
+-- A byte whose S is confirmed, with the bits to send or those taken ..
+abbrev pub confirmed_as : Asked → (word : ℕ) → Byte
+confirmed_as s word = record { address = s.address; nth = s.nth; left = top_bit; word = word }
 
--- The code that a command's EX executes for the slave of a number, by the header's word.
-unfoldable pub ran_in : (word number : ℕ) → (execute : Bool) → ℕ
-ran_in word number execute = cond (execute && concerns (ids_of word) (number_of number)) (cmd_of word) command_count
+-- .. and one that has passed, with the address behind its own.
+abbrev pub passed_as : Byte → (write good : Bool) → Passed
+passed_as b write good = record { write = write; good = good; next = next_address b.address; nth = b.nth }
 
 -- A P is followed by a further byte: the last was good, the address is not the last, the right allows it, and bytes are left.
-unfoldable pub goes_on : Body → (right : ℕ) → Bool
-goes_on b right =
-    b.good && (ltb (before (address_by b) + 1) address_count && bit (num b.write) right && ltb b.nth byte_limit)
+unfoldable pub goes_on : Passed → (right : ℕ) → Bool
+goes_on p right =
+    p.good
+    && (ltb (before (p.next % address_count) + 1) address_count && bit (num p.write) right && ltb p.nth byte_limit)

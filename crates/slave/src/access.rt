@@ -3,32 +3,30 @@ ghost use Rattle.std.specs.Prelude.{◌≡◌};
 ghost use Rattle.protocol.specs.Bits.{num, bit};
 ghost use Rattle.slave.specs.Code.{Meets};
 
-use crate::made::{UNASKED, said};
-use crate::{Body, Phase, Seen, Turn};
+use crate::phase::{Asked, Phase, said};
+use crate::{Reply, Seen};
 
 // R and W: "The addressed slave repeats R."
-pub fn ask_r(zeros: u64, body: Body, seen: Seen) -> Turn
-    ensures { Meets Phase.AskR zeros body seen result }
+pub fn ask_r(address: u8, seen: Seen) -> (Phase, Reply)
+    ensures { Meets (Phase.AskR address) seen result }
 {
-    let mut n = body;
-    n.write = seen.master;
-    said(Phase::AskW, zeros, n, seen.master, seen.byte)
+    said(Phase::AskW(address, seen.master), seen.master)
 }
 
 // R and W: "It repeats W if R and W differ and its right allows the access at that address; otherwise it inverts W and goes deaf."
-pub fn ask_w(zeros: u64, body: Body, seen: Seen) -> Turn
-    ensures { Meets Phase.AskW zeros body seen result }
+pub fn ask_w(address: u8, r: bool, seen: Seen) -> (Phase, Reply)
+    ensures { Meets (Phase.AskW address r) seen result }
 {
-    let mut n = body;
-    n.write = seen.master;
-    n.nth = 1;
-    n.word = UNASKED;
-    if body.write == seen.master {
-        said(Phase::Deaf, zeros, n, !seen.master, seen.byte)
-    } else if allowed(seen.right, seen.master) {
-        said(Phase::ByteS, zeros, n, seen.master, seen.byte)
+    if r != seen.master && allowed(seen.right, seen.master) {
+        let first = Asked {
+            write: seen.master,
+            address,
+            nth: 1,
+            unconfirmed: 0,
+        };
+        said(Phase::ByteS(first), seen.master)
     } else {
-        said(Phase::Deaf, zeros, n, !seen.master, seen.byte)
+        said(Phase::Deaf, !seen.master)
     }
 }
 

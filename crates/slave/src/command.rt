@@ -2,78 +2,60 @@
 ghost use Rattle.std.specs.Prelude.{◌≡◌};
 ghost use Rattle.protocol.specs.Commands.{concerns};
 ghost use Rattle.protocol.specs.Slave.{acknowledged};
-ghost use Rattle.slave.specs.Code.{number_of, ids_of, Meets, ran_in};
+ghost use Rattle.slave.specs.Code.{number_of, Meets};
 
-use crate::made::{NOT_RUN, said};
-use crate::{Body, Phase, Seen, Turn};
-use machine::{ACKNOWLEDGE_FIRST, BROADCAST, CHECKS, COMMANDS, execute_column, selected, stops};
+use crate::number::Number;
+use crate::phase::{Command, Phase, said};
+use crate::{Reply, Seen};
+use machine::{ACKNOWLEDGE_FIRST, BROADCAST, execute_column, selected, stops};
 
 // S, and after it the columns up to EX, whose bits of the master are not judged.
-pub fn acknowledge(zeros: u64, body: Body, seen: Seen) -> Turn
-    ensures { Meets Phase.Acknowledge zeros body seen result }
+pub fn acknowledge(command: Command, seen: Seen) -> (Phase, Reply)
+    ensures { Meets (Phase.Acknowledge command) seen result }
 {
-    let ids = ids_of(body.word);
-    let sent = acknowledged(body.column, ids, body.number, seen.far);
-    let mut n = body;
-    if stops(body.column, seen.master) {
-        said(Phase::Deaf, zeros, n, seen.far, seen.byte)
-    } else if body.column < execute_column(ids) - 1 {
-        n.column = body.column + 1;
-        said(Phase::Acknowledge, zeros, n, sent, seen.byte)
+    if stops(command.column, seen.master) {
+        return said(Phase::Deaf, seen.far);
+    }
+    let sent = acknowledged(command.column, command.ids, command.number, seen.far);
+    if command.column < execute_column(command.ids) - 1 {
+        let next = Command {
+            column: command.column + 1,
+            ..command
+        };
+        said(Phase::Acknowledge(next), sent)
     } else {
-        said(Phase::AskEX, zeros, n, sent, seen.byte)
+        let concerned = concerned(command.ids, command.number);
+        said(Phase::AskEX(command.cmd, concerned), sent)
     }
 }
 
 // EX = 1 executes the command for every slave that it concerns; then all of them are deaf.
-pub fn ask_ex(zeros: u64, body: Body, seen: Seen) -> Turn
-    ensures { Meets Phase.AskEX zeros body seen result }
+pub fn ask_ex(cmd: u8, concerned: bool, seen: Seen) -> (Phase, Reply)
+    ensures { Meets (Phase.AskEX cmd concerned) seen result }
 {
-    let mut t = said(Phase::Deaf, zeros, body, seen.far, seen.byte);
-    t.ran = ran_in(body.word, body.number, seen.master);
-    t
-}
-
-// The code that EX executes for the slave of this number, or NOT_RUN.
-fn ran_in(word: u64, number: u64, execute: bool) -> usize
-    ensures { result ≡ ran_in word number execute }
-{
-    if execute {
-        if concerned(ids_of(word), number) {
-            (word / CHECKS % COMMANDS) as usize
-        } else {
-            NOT_RUN
-        }
-    } else {
-        NOT_RUN
-    }
+    let reply = Reply {
+        sent: seen.far,
+        stored: None,
+        ran: (seen.master && concerned).then_some(cmd as usize),
+    };
+    (Phase::Deaf, reply)
 }
 
 // A broadcast goes to all slaves, "even those without a valid BiSS Slave ID".
-fn concerned(ids: u64, number: u64) -> bool
+fn concerned(ids: u64, number: Option<Number>) -> bool
     ensures { result ≡ concerns ids (number_of number) }
 {
-    if ids == BROADCAST {
-        true
-    } else {
-        selected(ids, number)
-    }
+    ids == BROADCAST || number.is_some_and(|own| selected(ids, own.value as u64))
 }
 
 // "all BiSS Slaves addressed by IDS acknowledge": in its own column a slave sends 1; all else passes on.
-fn acknowledged(column: u64, ids: u64, number: u64, far: bool) -> bool
+fn acknowledged(column: u64, ids: u64, number: Option<Number>, far: bool) -> bool
     ensures { result ≡ acknowledged column ids (number_of number) far }
 {
-    if column == ACKNOWLEDGE_FIRST + number {
-        if selected(ids, number) { true } else { far }
-    } else {
-        far
+    match number {
+        Some(own)
+            if column == ACKNOWLEDGE_FIRST + own.value as u64 && selected(ids, own.value as u64) =>
+            true,
+        _ => far,
     }
-}
-
-// The IDS of a header's word.
-fn ids_of(word: u64) -> u64
-    ensures { result ≡ ids_of word }
-{
-    word / CHECKS / COMMANDS % 256
 }

@@ -2,133 +2,133 @@
 ghost use Rattle.std.specs.Prelude.{◌≡◌, ◌≤◌};
 ghost use Rattle.protocol.specs.Division.{data_bits, word};
 ghost use Rattle.protocol.specs.Memory.{delay_by};
-ghost use Rattle.slave.specs.Code.{next_address, Meets, goes_on};
+ghost use Rattle.slave.specs.Code.{confirmed_as, passed_as, Meets, goes_on};
 
 use crate::access::allowed;
-use crate::made::{UNASKED, said};
-use crate::{Body, Phase, Seen, Turn};
+use crate::phase::{Asked, Byte, Passed, Phase, said};
+use crate::{Reply, Seen};
 use machine::{ADDRESSES, BYTES, CHECKS, TOP_BIT};
 
 // A byte's bits are counted down to 0; a count is read below the next power of two.
 const COUNTS: u64 = 16;
 
 // Byte: "A 0 at S is answered 0 and ends the access; the slave goes deaf." Request 03: "with S = 1 it answers 0 that many times and then 1".
-pub fn byte_s(zeros: u64, body: Body, seen: Seen) -> Turn
-    ensures { Meets Phase.ByteS zeros body seen result }
+pub fn byte_s(asked: Asked, seen: Seen) -> (Phase, Reply)
+    ensures { Meets (Phase.ByteS asked) seen result }
 {
-    let mut n = body;
-    n.left = TOP_BIT;
-    if seen.master {
-        if body.word < delay(body.write, body.nth, seen.wait) {
-            n.word = body.word + 1;
-            said(Phase::ByteS, zeros, n, false, seen.byte)
-        } else if body.write {
-            n.word = 0;
-            said(Phase::Takes, zeros, n, true, seen.byte)
-        } else {
-            n.word = checked(seen.byte);
-            said(Phase::Sends, zeros, n, true, seen.byte)
-        }
+    if !seen.master {
+        said(Phase::Deaf, false)
+    } else if asked.unconfirmed < delay(asked.write, asked.nth, seen.wait) {
+        let again = Asked {
+            unconfirmed: asked.unconfirmed + 1,
+            ..asked
+        };
+        said(Phase::ByteS(again), false)
+    } else if asked.write {
+        said(Phase::Takes(confirmed(asked, 0)), true)
     } else {
-        said(Phase::Deaf, zeros, n, false, seen.byte)
+        said(Phase::Sends(confirmed(asked, checked(seen.byte))), true)
+    }
+}
+
+// A byte whose S is confirmed, all twelve bits to come.
+fn confirmed(asked: Asked, word: u64) -> Byte
+    ensures { result ≡ confirmed_as asked word }
+{
+    Byte {
+        address: asked.address,
+        nth: asked.nth,
+        left: TOP_BIT,
+        word,
     }
 }
 
 // Request 03: "Every byte of a read waits; in a write the first byte does not, later ones do."
-fn delay(write: bool, nth: u64, wait: u8) -> u64
+fn delay(write: bool, nth: u8, wait: u8) -> u64
     ensures { (result ≡ delay_by wait write nth) × (result ≤ 255) }
 {
-    if write {
-        if nth == 1 { 0 } else { wait as u64 }
-    } else {
-        wait as u64
-    }
+    if write && nth == 1 { 0 } else { wait as u64 }
 }
 
 // Byte: "Reading: the slave sends data and check; the master's twelve bits are not judged".
-pub fn sends(zeros: u64, body: Body, seen: Seen) -> Turn
-    ensures { Meets Phase.Sends zeros body seen result }
+pub fn sends(byte: Byte, seen: Seen) -> (Phase, Reply)
+    ensures { Meets (Phase.Sends byte) seen result }
 {
-    let left = body.left % COUNTS;
-    let sent = (body.word >> left) % 2 == 1;
-    let mut n = body;
+    let left = byte.left % COUNTS;
+    let sent = (byte.word >> left) % 2 == 1;
     if left == 0 {
-        n.write = false;
-        n.good = true;
-        n.address = next_address(body.address);
-        said(Phase::AskP, zeros, n, sent, seen.byte)
+        said(Phase::AskP(passed(byte, false, true)), sent)
     } else {
-        n.left = left - 1;
-        said(Phase::Sends, zeros, n, sent, seen.byte)
+        said(
+            Phase::Sends(Byte {
+                left: left - 1,
+                ..byte
+            }),
+            sent,
+        )
     }
 }
 
 // Byte: "Writing: the slave echoes all twelve bits, and at the last check bit stores the byte if the check is right."
-pub fn takes(zeros: u64, body: Body, seen: Seen) -> Turn
-    ensures { Meets Phase.Takes zeros body seen result }
+pub fn takes(byte: Byte, seen: Seen) -> (Phase, Reply)
+    ensures { Meets (Phase.Takes byte) seen result }
 {
-    let left = body.left % COUNTS;
-    let word = checkbits::pushed(body.word, seen.master);
-    let mut n = body;
+    let left = byte.left % COUNTS;
+    let word = checkbits::pushed(byte.word, seen.master);
     if 0 < left {
-        n.left = left - 1;
-        n.word = word;
-        said(Phase::Takes, zeros, n, seen.master, seen.byte)
-    } else {
-        n.write = true;
-        n.address = next_address(body.address);
-        if checkbits::byte_fits(word) {
-            n.good = true;
-            said(
-                Phase::AskP,
-                zeros,
-                n,
-                seen.master,
-                (word / CHECKS % 256) as u8,
-            )
-        } else {
-            n.good = false;
-            said(Phase::AskP, zeros, n, seen.master, seen.byte)
-        }
+        let next = Byte {
+            left: left - 1,
+            word,
+            ..byte
+        };
+        return said(Phase::Takes(next), seen.master);
+    }
+    let good = checkbits::byte_fits(word);
+    let reply = Reply {
+        sent: seen.master,
+        stored: good.then_some((word / CHECKS % 256) as u8),
+        ran: None,
+    };
+    (Phase::AskP(passed(byte, true, good)), reply)
+}
+
+// A byte that has passed, with its next address.
+fn passed(byte: Byte, write: bool, good: bool) -> Passed
+    ensures { result ≡ passed_as byte write good }
+{
+    Passed {
+        write,
+        good,
+        next: ((byte.address as u64 % ADDRESSES + 1) % ADDRESSES) as u8,
+        nth: byte.nth,
     }
 }
 
 // P: "The slave answers 0 if the next address exists, allows the access, and fewer than 64 bytes have passed; otherwise 1".
-pub fn ask_p(zeros: u64, body: Body, seen: Seen) -> Turn
-    ensures { Meets Phase.AskP zeros body seen result }
+pub fn ask_p(passed: Passed, seen: Seen) -> (Phase, Reply)
+    ensures { Meets (Phase.AskP passed) seen result }
 {
-    let mut n = body;
-    if goes_on(body, seen.right) {
-        n.nth = body.nth + 1;
-        n.word = UNASKED;
-        said(Phase::ByteS, zeros, n, false, seen.byte)
+    if goes_on(passed, seen.right) {
+        let next = Asked {
+            write: passed.write,
+            address: passed.next,
+            nth: passed.nth + 1,
+            unconfirmed: 0,
+        };
+        said(Phase::ByteS(next), false)
     } else {
-        said(Phase::Deaf, zeros, n, true, seen.byte)
+        said(Phase::Deaf, true)
     }
 }
 
 // House rule: "after a written byte with a wrong check it also answers 1."
-fn goes_on(body: Body, right: u8) -> bool
-    ensures { result ≡ goes_on body right }
+fn goes_on(passed: Passed, right: u8) -> bool
+    ensures { result ≡ goes_on passed right }
 {
-    if body.good {
-        if body.address % ADDRESSES == 0 {
-            false
-        } else if body.nth < BYTES {
-            allowed(right, body.write)
-        } else {
-            false
-        }
-    } else {
-        false
-    }
-}
-
-// The address after this one; 0 where there is none.
-fn next_address(address: u64) -> u64
-    ensures { result ≡ next_address address }
-{
-    (address % ADDRESSES + 1) % ADDRESSES
+    passed.good
+        && passed.next as u64 % ADDRESSES != 0
+        && allowed(right, passed.write)
+        && (passed.nth as u64) < BYTES
 }
 
 // A byte with its check bits behind it.

@@ -1,111 +1,106 @@
 // The fifteen columns after S: the locks, and the header that the last one completes.
-ghost use Rattle.std.specs.Prelude.{◌≡◌};
-ghost use Rattle.slave.specs.Code.{next_column, lock_of, Meets, locked_as, CalledAs};
+ghost use Rattle.std.specs.Prelude.{◌≡◌, ◌/◌, ◌%◌, ◌^◌};
+ghost use Rattle.protocol.specs.Header.{access, header};
+ghost use Rattle.protocol.specs.Slave.{called};
+ghost use Rattle.slave.specs.Code.{number_of, phase_of, lock_of, Meets, locked_as};
 
-use crate::made::{NONE, said};
-use crate::{Body, Phase, Seen, Turn};
-use machine::{ADDRESSES, CHECKS, COMMAND_S, CTS, HEADER, IDS, LOCK_FIRST, LOCK_LAST};
+use crate::number::Number;
+use crate::phase::{Command, Header, Phase, said};
+use crate::{Reply, Seen};
+use machine::{ADDRESSES, CHECKS, COMMAND_S, COMMANDS, CTS, HEADER, IDS, LOCK_FIRST, LOCK_LAST};
 
 // What a lock column makes of it: the number that it holds then, and the bit that it sends.
 #[derive(Clone, Copy)]
 struct Lock {
-    number: u64,
+    number: Option<Number>,
     sent: bool,
 }
 
 // Locks: the header's bits up to IDL8's column.
-pub fn locks(zeros: u64, body: Body, seen: Seen) -> Turn
-    ensures { Meets Phase.Locks zeros body seen result }
+pub fn locks(header: Header, seen: Seen) -> (Phase, Reply)
+    ensures { Meets (Phase.Locks header) seen result }
 {
-    let lock = locked(body.column, body.number, seen.far);
-    let mut n = body;
-    n.word = checkbits::pushed(body.word, seen.master);
-    n.number = lock.number;
-    if body.column < LOCK_LAST {
-        n.column = body.column + 1;
-        said(Phase::Locks, zeros, n, lock.sent, seen.byte)
+    let lock = locked(header.column, header.number, seen.far);
+    let next = Header {
+        column: header.column.min(HEADER) + 1,
+        word: checkbits::pushed(header.word, seen.master),
+        number: lock.number,
+    };
+    if header.column < LOCK_LAST {
+        said(Phase::Locks(next), lock.sent)
     } else {
-        n.column = after(body.column);
-        said(Phase::Head, zeros, n, lock.sent, seen.byte)
+        said(Phase::Head(next), lock.sent)
     }
 }
 
-// The next column of the header; a count that no header reaches stays.
-fn after(column: u64) -> u64
-    ensures { result ≡ next_column column }
-{
-    if column < HEADER {
-        column + 1
-    } else {
-        HEADER + 1
-    }
-}
-
-// Locks: "a slave that holds no number yet and sees 0 takes this number and sends 1; all others pass on what they see."
-fn locked(column: u64, number: u64, far: bool) -> Lock
+// Locks: "a slave that holds no number yet and sees 0 takes this number and sends 1; all others pass on what they see. At IDL8 a slave
+// without a number sends 1".
+fn locked(column: u64, number: Option<Number>, far: bool) -> Lock
     ensures { lock_of result ≡ locked_as column number far }
 {
-    if number < NONE {
-        Lock {
-            number: number,
-            sent: far,
-        }
-    } else if far {
-        Lock {
-            number: number,
-            sent: true,
-        }
-    } else if column < LOCK_FIRST {
-        Lock {
-            number: number,
+    match number {
+        Some(_) => Lock { number, sent: far },
+        None if far => Lock { number, sent: true },
+        None if column < LOCK_FIRST => Lock {
+            number,
             sent: false,
+        },
+        None if column < LOCK_LAST => {
+            let value = (column - LOCK_FIRST) as u8;
+            Lock {
+                number: Some(Number { value }),
+                sent: true,
+            }
         }
-    } else if column < LOCK_LAST {
-        Lock {
-            number: column - LOCK_FIRST,
-            sent: true,
-        }
-    } else {
-        Lock {
-            number: number,
-            sent: true,
-        }
+        None => Lock { number, sent: true },
     }
 }
 
 // The header's columns behind the locks; the last one completes it, and leads where the header calls the slave.
-pub fn head(zeros: u64, body: Body, seen: Seen) -> Turn
-    ensures { Meets Phase.Head zeros body seen result }
+pub fn head(header: Header, seen: Seen) -> (Phase, Reply)
+    ensures { Meets (Phase.Head header) seen result }
 {
-    let word = checkbits::pushed(body.word, seen.master);
-    let mut n = body;
-    n.word = word;
-    if body.column < HEADER {
-        n.column = body.column + 1;
-        said(Phase::Head, zeros, n, seen.far, seen.byte)
+    let word = checkbits::pushed(header.word, seen.master);
+    if header.column < HEADER {
+        let next = Header {
+            column: header.column + 1,
+            word,
+            number: header.number,
+        };
+        said(Phase::Head(next), seen.far)
     } else {
-        n.address = word / CHECKS % ADDRESSES;
-        n.column = COMMAND_S;
-        said(called(word, body.number), zeros, n, seen.far, seen.byte)
+        said(called(word, header.number), seen.far)
     }
 }
 
-// Where a header with its check leads the slave of this number. "Wrong header check ..: all slaves go deaf until rest"; a command's S is
-// for all of them, a register access for the slave of its ID.
-fn called(word: u64, number: u64) -> Phase
-    ensures { CalledAs word number result }
+// Where a header leads a slave. "Wrong header check ..: all slaves go deaf until rest"; a command's S is for all of them, a register access
+// for the slave of its ID.
+fn called(word: u64, number: Option<Number>) -> Phase
+    ensures { phase_of result ≡ called (header word) (number_of number) }
 {
-    if checkbits::header_fits(word) {
-        if word / CHECKS / CTS % 2 == 1 {
-            if number == word / CHECKS / ADDRESSES % IDS {
-                Phase::AskR
-            } else {
-                Phase::Deaf
-            }
-        } else {
-            Phase::Acknowledge
-        }
-    } else {
+    let value = word / CHECKS;
+    if !checkbits::header_fits(word) {
         Phase::Deaf
+    } else if value / CTS % 2 == 1 {
+        accessed(value, number)
+    } else {
+        Phase::Acknowledge(Command {
+            column: COMMAND_S,
+            ids: value / COMMANDS % 256,
+            cmd: (value % COMMANDS) as u8,
+            number,
+        })
+    }
+}
+
+// A register access, to the slave that holds its ID.
+fn accessed(value: u64, number: Option<Number>) -> Phase
+    ensures { phase_of result ≡ called (access (value / 2 ^ 7 % 2 ^ 3) (value % 2 ^ 7)) (number_of number) }
+{
+    match number {
+        Some(own) if own.value as u64 == value / ADDRESSES % IDS => Phase::AskR(
+            (value % ADDRESSES) as u8,
+        ),
+        _ => Phase::Deaf,
     }
 }

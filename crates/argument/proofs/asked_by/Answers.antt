@@ -1,15 +1,16 @@
 -- `argument::asked_by` meets its contract: help, no number, or the number. Assumes nothing.
 use mathlib.Core.Path.{sym, ◌∙◌}
-use Rattle.argument.proofs.Digits.{asks_help, asks_nothing, asks_number}
+use Rattle.argument.specs.Argument.{asked_by}
 use Rattle.argument.proofs.asked_by.Goals as goal
 
 pub returns-then-is_help : goal.returns-then-is_help
-returns-then-is_help c = asks_help _ (sym c.is_help.ensures ∙ c.if-is_help.true)
+unfolding asked_by
+returns-then-is_help c = rw (sym c.is_help.ensures ∙ c.if-is_help.true)
 
-pub returns-then-argument-eq0 : goal.returns-then-argument-eq0
-returns-then-argument-eq0 c =
-    asks_nothing _ (sym c.is_help.ensures ∙ c.if-is_help.false) c.if-argument-eq0.true
+pub returns-then-is_empty : goal.returns-then-is_empty
+unfolding asked_by
+returns-then-is_empty c = rw (sym c.is_help.ensures ∙ c.if-is_help.false, sym c.is_empty.ensures ∙ c.if-is_empty.true)
 
 pub returns : goal.returns
-returns c =
-    c.number.ensures ∙ asks_number _ (sym c.is_help.ensures ∙ c.if-is_help.false) c.if-argument-eq0.false
+unfolding asked_by
+returns c = rw (sym c.is_help.ensures ∙ c.if-is_help.false, sym c.is_empty.ensures ∙ c.if-is_empty.false) c.number.ensures

@@ -2,9 +2,9 @@
 use Rattle.biss.specs.Coded.{code}
 use Rattle.biss.proofs.coded.Goals as goal
 
-pub returns-in-Made : goal.returns-in-Made
+pub returns-in-Ok : goal.returns-in-Ok
 unfolding code
-returns-in-Made c = rw c.in-Made.is
+returns-in-Ok c = rw c.in-Ok.is
 
-pub returns-in-Refused : goal.returns-in-Refused
-returns-in-Refused c = rw c.in-Refused.is c.coded_refusal.ensures
+pub returns-in-Err : goal.returns-in-Err
+returns-in-Err c = rw c.in-Err.is c.coded_refusal.ensures

@@ -1,14 +1,13 @@
--- `build::build_read` meets its contract: it is a register access that reads. Assumes nothing.
-use Rattle.build.proofs.Ends.{reading, access_refused, access_room, access_made}
+-- `build::build_read` meets its contract: a read is an access of so many bytes. Assumes nothing.
+use lib.ListN.{length-replicate}
+use Rattle.protocol.specs.Building.{read}
+use Rattle.build.specs.Build.{outside}
+use Rattle.build.proofs.Rows.{made_read}
+use Rattle.build.proofs.Ends.{accessed_built}
 use Rattle.build.proofs.build_read.Goals as goal
 
-pub returns-then-why-ne0 : goal.returns-then-why-ne0
-returns-then-why-ne0 c = access_refused (reading _ _ _ _) c.begin-why.ensures c.if-why-ne0.true
-
-pub put_reads-n-requires : goal.put_reads-n-requires
-put_reads-n-requires c =
-    access_room (reading _ _ _ _) c.begin-why.ensures c.if-why-ne0.false
-
 pub returns : goal.returns
+unfolding outside
 returns c =
-    access_made (reading _ _ _ _) c.begin-why.ensures c.if-why-ne0.false c.put_reads-n.ensures
+    let a = c.args in
+    accessed_built (read a.id a.address a.count a.wait) (rw length-replicate) (made_read a.id a.address a.count a.wait) c.build.ensures

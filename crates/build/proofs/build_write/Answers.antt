@@ -1,15 +1,13 @@
--- `build::build_write` meets its contract: it is a register access that writes. Assumes nothing.
-use Rattle.build.proofs.Ends.{writing, access_refused, access_room, access_made}
+-- `build::build_write` meets its contract: a write is an access of its bytes. Assumes nothing.
+use lib.ListN.{length-map}
+use Rattle.protocol.specs.Building.{write}
+use Rattle.build.specs.Build.{outside}
+use Rattle.build.proofs.Rows.{made_write}
+use Rattle.build.proofs.Ends.{accessed_built}
 use Rattle.build.proofs.build_write.Goals as goal
 
-pub returns-then-why-ne0 : goal.returns-then-why-ne0
-returns-then-why-ne0 c = access_refused (writing _ _ _ _) c.begin-why.ensures c.if-why-ne0.true
-
-pub put_writes-n-requires : goal.put_writes-n-requires
-put_writes-n-requires c =
-    let bytes = c.args.bytes.now in
-    access_room (writing _ _ bytes _) c.begin-why.ensures c.if-why-ne0.false
-
 pub returns : goal.returns
+unfolding outside
 returns c =
-    access_made (writing _ _ _ _) c.begin-why.ensures c.if-why-ne0.false c.put_writes-n.ensures
+    let a = c.args in
+    accessed_built (write a.id a.address a.bytes.now a.wait) (rw length-map) (made_write a.id a.address a.bytes.now a.wait) c.build.ensures

@@ -1,23 +1,17 @@
 -- `build::put_bits` meets its contract. Assumes nothing.
-use mathlib.Core.Path.{◌≡◌, ◌∙◌}
-use borrow.Author.Rules.{rules}
-use lib.ListN.{length-set}
-use Rattle.build.proofs.Columns.{bit_laid}
+use mathlib.Core.Path.{◌≡◌, refl, ◌∙◌}
+use Prim.Native.Nat.{◌-◌}
+use native.Mathlib.Omega.{arith}
 use Rattle.protocol.specs.Bits.{bits}
+use Rattle.build.proofs.Columns.{bit_laid}
 use Rattle.build.proofs.put_bits.Goals as goal
 
-pub loop-left-preserved : goal.loop-left-preserved
-loop-left-preserved c =
-    let l = c.loop-left in (
-      search rules,
-      search rules,
-      rw length-set l.invariant.2,
-      bit_laid l.out l.p l.left _ c.loop-left-test.true ∙ l.invariant.3,
-    )
-
-pub shape_of-out : goal.shape_of-out
-shape_of-out c = c.loop-left.invariant.2
+pub loop-place-preserved : goal.loop-place-preserved
+loop-place-preserved c =
+    let l = c.loop-place in
+    let a = c.args in
+    bit_laid l.out a.at a.n l.place a.w c.loop-place-test.true ∙ l.invariant
 
 pub returns : goal.returns
 unfolding bits
-returns c = let l = c.loop-left in let none : l.left ≡ 0 = search rules in (search rules, rw none at l.invariant.3)
+returns c = let none : c.args.n - c.loop-place.place ≡ 0 = omega arith in (refl, rw none at c.loop-place.invariant)

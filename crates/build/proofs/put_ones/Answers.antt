@@ -1,21 +1,7 @@
 -- `build::put_ones` meets its contract. Assumes nothing.
-use mathlib.Core.Path.{◌≡◌, ◌∙◌}
-use borrow.Author.Rules.{rules}
-use lib.ListN.{length-set}
-use Rattle.build.proofs.Columns.{one_laid}
+use mathlib.Core.Path.{refl}
+use Rattle.build.proofs.Columns.{ones_laid}
 use Rattle.build.proofs.put_ones.Goals as goal
 
-pub loop-left-preserved : goal.loop-left-preserved
-loop-left-preserved c =
-    let l = c.loop-left in (
-      search rules,
-      search rules,
-      rw length-set l.invariant.2,
-      one_laid l.out l.p l.left c.loop-left-test.true ∙ l.invariant.3,
-    )
-
-pub shape_of-out : goal.shape_of-out
-shape_of-out c = c.loop-left.invariant.2
-
 pub returns : goal.returns
-returns c = let l = c.loop-left in let none : l.left ≡ 0 = search rules in (search rules, rw none at l.invariant.3)
+returns c = (refl, rw (c.fill.ensures.after (λ y same. same)) (ones_laid c.args.out.now c.args.at c.args.n c.requires))

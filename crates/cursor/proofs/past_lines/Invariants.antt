@@ -1,14 +1,9 @@
--- The loop's invariant of `cursor::past_lines`: what is left has the stop of all.
+-- The loop's invariant of `cursor::past_lines`: the lines that are left have the stop of all.
 use mathlib.Core.Path.{◌≡◌}
-use Prim.Native.Nat.{◌+◌, ◌-◌, ◌%◌, ◌≤◌}
-use lib.ListN.{length, drop}
+use Prim.Native.Nat.{◌+◌, ◌*◌}
+use lib.ListN.{drop}
 use Rattle.protocol.specs.Fault.{stop}
 use Rattle.cursor.proofs.past_lines.Given as goal
 
 abbrev pub invariant-loop-i : goal.invariant-loop-i
-invariant-loop-i l =
-    (l.i ≤ length l.piece) × (l.from ≤ l.i) × (8 ≤ l.i + l.before) × ((l.i + l.before) % 4 ≡ 0)
-    × (stop (l.i + l.before) (drop l.i l.piece) ≡ stop (l.from + l.before) (drop l.from l.piece))
-
-abbrev pub decreases-loop-i : goal.decreases-loop-i
-decreases-loop-i l = length l.piece - l.i
+invariant-loop-i l = stop (4 * l.i + 8) (drop (4 * l.i) l.bytes) ≡ stop 8 l.bytes

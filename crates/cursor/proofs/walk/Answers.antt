@@ -1,30 +1,35 @@
 -- `cursor::walk` meets its contract. Assumes nothing.
-use mathlib.Core.Path.{sym, ◌∙◌}
+use Prim.Native.Nat.{ℕ, ◌*◌, ◌%◌, ◌≤◌}
+use mathlib.Core.Path.{◌≡◌, sym, ap, ◌∙◌}
+use native.Mathlib.Omega.{arith}
 use borrow.Author.Rules.{rules}
-use Rattle.cursor.proofs.Lines.{byte_formed, byte_stops, end_stops}
+use lib.ListN.{length}
+use Rattle.protocol.specs.Fault.{stop}
+use Rattle.protocol.proofs.Stop.{stop_first}
+use Rattle.cursor.proofs.Lines.{behind_front, stop_within}
 use Rattle.cursor.proofs.walk.Goals as goal
 
-pub past_lines-p-requires : goal.past_lines-p-requires
-past_lines-p-requires c = (c.past_header.ensures.0, search rules)
+pub overflow_add-result : goal.overflow_add-result
+overflow_add-result c =
+    let a = c.args in
+    let begun = c.formed-begun in
+    let low : begun.result ≤ length c.split_at.result.0.now = stop_within _ a.before _ begun.ensures in
+    let more : c.in_lines.result ≤ length c.split_at.result.1.now = stop_within _ 8 _ c.in_lines.ensures in
+    search rules
 
-pub loop-p-init : goal.loop-p-init
-loop-p-init c =
-    let said = c.past_lines-p.ensures in
-    (said.1, said.2 ∙ c.past_header.ensures.1)
+pub returns-then-begun-front : goal.returns-then-begun-front
+returns-then-begun-front c =
+    let a = c.args in
+    let e = c.formed-begun.ensures in
+    let here = stop_first c.split_at.result.1.now a.before c.split_at.result.0.now (omega (arith, e)) in
+    e ∙ sym here ∙ ap (stop a.before) (sym c.split_at.ensures.by_index.0)
 
-pub loop-p-preserved : goal.loop-p-preserved
-loop-p-preserved c =
-    let said = c.past_lines-p-then-is_formed.ensures in
-    let l = c.loop-p in
-    let byte = byte_formed _ l.p _ c.loop-p-test.true (sym c.is_formed.ensures ∙ c.if-is_formed.true) in
-    (said.1, said.2 ∙ (byte ∙ l.invariant.1))
-
-pub returns-else-is_formed : goal.returns-else-is_formed
-returns-else-is_formed c =
-    let l = c.loop-p in
-    byte_stops _ l.p _ c.loop-p-test.true (sym c.is_formed.ensures ∙ c.if-is_formed.false) ∙ l.invariant.1
-
-pub returns : goal.returns
-returns c =
-    let l = c.loop-p in
-    end_stops _ l.p _ c.loop-p-test.false ∙ l.invariant.1
+pub returns-else-begun-front : goal.returns-else-begun-front
+returns-else-begun-front c =
+    let a = c.args in
+    let start : ℕ = c.div_ceil-start.result * 4 in
+    let even : start % 4 ≡ 0 = omega arith in
+    let below : 8 ≤ start = omega arith in
+    let after : a.before ≤ start = omega arith in
+    behind_front _ _ a.before _ _ start c.formed-begun.ensures c.if-begun-front.false c.in_lines.ensures even below after (omega arith)
+    ∙ ap (stop a.before) (sym c.split_at.ensures.by_index.0)

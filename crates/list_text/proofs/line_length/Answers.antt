@@ -1,21 +1,23 @@
--- `list_text::line_length` meets its contract: the sum of the parts' lengths. Assumes nothing.
-use mathlib.Core.Bool.{Bool}
-use mathlib.Core.Path.{ap}
+-- `list_text::line_length` meets its contract: the name, the fields and the line feed are counted. Assumes nothing.
+use mathlib.Core.Path.{◌≡◌}
 use native.Mathlib.Omega.{arith}
-use lib.ListN.{length}
-use Rattle.protocol.specs.Text.{field}
-use Rattle.lists.specs.Fields.{entry_of}
-use Rattle.names.specs.Names.{name_of, names, names_bank_of}
-use Rattle.list_text.proofs.Parts.{line_length_lem}
+use Rattle.protocol.specs.Layout.{numbers}
+use Rattle.protocol.specs.Text.{cells}
+use Rattle.lists.specs.Entries.{entry_of}
+use Rattle.list_text.proofs.Parts.{line_length_lem, cells_length}
 use Rattle.list_text.proofs.line_length.Goals as goal
 
+pub loop-number-init : goal.loop-number-init
+loop-number-init c = let all = line_length_lem (entry_of c.args.e) in record { counted = omega arith; small = omega arith }
+
+pub loop-number-preserved : goal.loop-number-preserved
+loop-number-preserved c =
+    let more = cells_length (entry_of c.args.e) numbers c.loop-number.number-index c.loop-number-test.true in
+    let one = rw c.numbers-number-items.ensures at c.field_length-n.ensures in
+    record { counted = omega arith; small = omega arith }
+
 pub returns : goal.returns
-unfolding name_of names names_bank_of
+unfolding cells
 returns c =
-    let e = c.args.e in
-    let id = ap (λ (b : Bool). length (field b e.id)) c.has_field.ensures in
-    let address = ap (λ (b : Bool). length (field b e.address)) c.has_field-2.ensures in
-    let bank = ap (λ (b : Bool). length (field b e.bank)) c.has_bank.ensures in
-    let value = ap (λ (b : Bool). length (field b e.value)) c.has_field-3.ensures in
-    let all = line_length_lem (entry_of e) in
-    omega arith
+    let done : c.loop-number.number-index ≡ 6 = omega arith in
+    let all = rw done at c.loop-number.invariant.counted in omega arith

@@ -1,29 +1,20 @@
--- `list_text::put_field` meets its contract: the number's field, or `-`. Assumes nothing.
-use mathlib.Core.Path.{sym, ap}
-use borrow.Author.Rules.{rules}
-use lib.ListN.{length}
-use Rattle.list_text.proofs.Parts.{field_named, field_unnamed}
-use Rattle.print.proofs.Laid.{renamed}
+-- `list_text::put_field` meets its contract: a TAB, and the digits or `-`. Assumes nothing.
+use native.Mathlib.Omega.{arith}
+use Rattle.protocol.specs.Text.{field}
 use Rattle.list_text.proofs.put_field.Goals as goal
 
 pub put_number-requires : goal.put_number-requires
-put_number-requires c =
-    let a = c.args in
-    let long = ap length (field_named a.named a.n c.if-named.true) in
-    search rules
+unfolding field
+put_number-requires c = rw c.from.ensures (let room = rw c.in-Some.is at c.requires in omega arith)
 
 pub put_bytes-requires : goal.put_bytes-requires
-put_bytes-requires c =
-    let a = c.args in
-    let long = ap length (field_unnamed a.named a.n c.if-named.false) in
-    search rules
+unfolding field
+put_bytes-requires c = let room = rw c.in-None.is at c.requires in omega arith
 
-pub returns-then-named : goal.returns-then-named
-returns-then-named c =
-    let a = c.args in
-    renamed (sym (field_named a.named a.n c.if-named.true)) c.put_number.ensures
+pub returns-in-Some : goal.returns-in-Some
+unfolding field
+returns-in-Some c = rw c.in-Some.is (rw c.from.ensures at c.put_number.ensures)
 
-pub returns-else-named : goal.returns-else-named
-returns-else-named c =
-    let a = c.args in
-    renamed (sym (field_unnamed a.named a.n c.if-named.false)) c.put_bytes.ensures
+pub returns-in-None : goal.returns-in-None
+unfolding field
+returns-in-None c = rw c.in-None.is c.put_bytes.ensures

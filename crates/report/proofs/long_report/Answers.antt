@@ -1,13 +1,11 @@
--- `report::long_report` meets its contract. Assumes nothing.
-use Rattle.report.proofs.Rows.{long_none, long_bad}
+-- `report::long_report` meets its contract: the fault's refusal, or 5 where there is none. Assumes nothing.
+use Rattle.report.specs.Report.{long_report}
 use Rattle.report.proofs.long_report.Goals as goal
 
-pub returns-then-number-ne0 : goal.returns-then-number-ne0
-returns-then-number-ne0 c =
-    let a = c.args in
-    rw (long_bad a.stop a.end _ c.fault_number-number.ensures c.if-number-ne0.true c.fault_detail.result c.fault_detail.ensures) c.refused.ensures
+pub returns-in-Ok : goal.returns-in-Ok
+unfolding long_report
+returns-in-Ok c = rw (← c.in-Ok.ensures) (rw c.into.ensures at c.refused.ensures)
 
-pub returns-else-number-ne0 : goal.returns-else-number-ne0
-returns-else-number-ne0 c =
-    let a = c.args in
-    rw (long_none a.stop a.end _ c.fault_number-number.ensures c.if-number-ne0.false) c.refused-else-number-ne0.ensures
+pub returns-in-Err : goal.returns-in-Err
+unfolding long_report
+returns-in-Err c = rw (← c.in-Err.ensures) c.refused-in-Err.ensures

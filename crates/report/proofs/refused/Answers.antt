@@ -13,8 +13,7 @@ use Rattle.report.proofs.refused.Goals as goal
 
 pub put_number-told-requires : goal.put_number-told-requires
 put_number-told-requires c =
-    let a = c.args in
-    let short : length (decimal a.number) ≤ 20 = twenty a.number (search rules) in
+    let short : length (decimal c.number.result) ≤ 20 = twenty c.number.result (search rules) in
     let kept = laid_length c.put_bytes-tab.ensures in
     let at = c.put_bytes-tab.ensures.behind in
     search rules
@@ -48,7 +47,7 @@ slice_bounds-whole-end c =
 
 pub returns : goal.returns
 returns c =
-    let a = c.args in
+    let why = c.args.why in
     let end = number_end _ (search rules) c.put_bytes-tab.ensures c.put_number-told.ensures in
-    let front = refused_front _ (search rules) c.put_bytes-tab.ensures c.put_number-told.ensures (detail a.beside) c.put_beside-feed.ensures.0 (search rules) in
-    rw front at c.whole.ensures
+    let front = refused_front _ (search rules) c.put_bytes-tab.ensures c.put_number-told.ensures (detail why.beside) c.put_beside-feed.ensures.0 (search rules) in
+    rw (← c.number.ensures) (rw front at c.whole.ensures)

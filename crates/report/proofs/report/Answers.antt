@@ -1,40 +1,23 @@
--- `report::report` meets its contract: the report on the rows that the text gives, or the refusal. Assumes nothing.
+-- `report::report` meets its contract: the list that the text shows is printed, or the refusal. Assumes nothing.
 use mathlib.Core.Path.{sym}
+use borrow.Author.Rules.{rules}
 use lib.Seq.{length-take-le}
-use Rattle.report.proofs.Rows.{says, rows_right, reports_rows}
+use Rattle.report.proofs.Rows.{shown_within, shown_printed, refusal_printed}
 use Rattle.report.proofs.report.Goals as goal
 
-pub slice_bounds-cdm-end : goal.slice_bounds-cdm-end
-slice_bounds-cdm-end c =
-    let t = rw c.in-Made.is at (says _ _ _ c.row-cdm.ensures c.row-cds.ensures _ c.text_to_rows-taken.ensures) in
-    t.in_cdm
+pub overflow_mul-list : goal.overflow_mul-list
+overflow_mul-list c =
+    let within = shown_within c.args.text.now c.args.opening c.in-Ok.ensures in
+    search rules
 
-pub slice_bounds-rows_report-end : goal.slice_bounds-rows_report-end
-slice_bounds-rows_report-end c =
-    let t = rw c.in-Made.is at (says _ _ _ c.row-cdm.ensures c.row-cds.ensures _ c.text_to_rows-taken.ensures) in
-    sym (length-take-le _ _ t.in_cdm)
+pub slice_bounds-list-end : goal.slice_bounds-list-end
+slice_bounds-list-end c = shown_within c.args.text.now c.args.opening c.in-Ok.ensures
 
-pub slice_bounds-cds-end : goal.slice_bounds-cds-end
-slice_bounds-cds-end c =
-    let t = rw c.in-Made.is at (says _ _ _ c.row-cdm.ensures c.row-cds.ensures _ c.text_to_rows-taken.ensures) in
-    t.in_cds
+pub slice_bounds-list_to_text-end : goal.slice_bounds-list_to_text-end
+slice_bounds-list_to_text-end c = sym (length-take-le _ _ (shown_within c.args.text.now c.args.opening c.in-Ok.ensures))
 
-pub slice_bounds-rows_report-end-in-Made : goal.slice_bounds-rows_report-end-in-Made
-slice_bounds-rows_report-end-in-Made c =
-    let t = rw c.in-Made.is at (says _ _ _ c.row-cdm.ensures c.row-cds.ensures _ c.text_to_rows-taken.ensures) in
-    sym (length-take-le _ _ t.in_cds)
+pub returns-in-Ok : goal.returns-in-Ok
+returns-in-Ok c = shown_printed c.args.text.now c.args.opening c.in-Ok.ensures c.list_to_text.ensures
 
-pub rows_report-requires : goal.rows_report-requires
-rows_report-requires c =
-    let t = rw c.in-Made.is at (says _ _ _ c.row-cdm.ensures c.row-cds.ensures _ c.text_to_rows-taken.ensures) in
-    rows_right t
-
-pub returns-in-Made : goal.returns-in-Made
-returns-in-Made c =
-    let t = rw c.in-Made.is at (says _ _ _ c.row-cdm.ensures c.row-cds.ensures _ c.text_to_rows-taken.ensures) in
-    rw (reports_rows _ _ t.good t.short, ← t.cdm_row, ← t.cds_row) c.rows_report.ensures
-
-pub returns-in-Refused : goal.returns-in-Refused
-returns-in-Refused c =
-    let t = rw c.in-Refused.is at (says _ _ _ c.row-cdm.ensures c.row-cds.ensures _ c.text_to_rows-taken.ensures) in
-    rw (t _) c.refused.ensures
+pub returns-in-Err : goal.returns-in-Err
+returns-in-Err c = rw (refusal_printed c.args.text.now c.args.opening c.in-Err.ensures) at c.refused.ensures

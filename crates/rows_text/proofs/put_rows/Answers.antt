@@ -1,34 +1,19 @@
 -- `rows_text::put_rows` meets its contract. Assumes nothing.
 use mathlib.Core.Path.{sym, ◌∙◌}
-use borrow.Author.Rules.{rules}
-use lib.ListN.{length-set}
-use Rattle.rows_text.proofs.Columns.{cdm_laid, cds_laid, digits_laid_none}
-use Rattle.protocol.specs.Text.{cdm_of, cds_of}
+use Rattle.rows_text.proofs.Columns.{bit_laid, no_bit}
 use Rattle.rows_text.proofs.put_rows.Goals as goal
 
 pub loop-k-preserved : goal.loop-k-preserved
 loop-k-preserved c =
     let l = c.loop-k in
-    let a = c.args in (
-      search rules,
-      search rules,
-      rw length-set l.invariant.2,
-      rw length-set l.invariant.3,
-      cdm_laid a.text.now l.cdm l.i l.k (search rules) ∙ l.invariant.4,
-      cds_laid a.text.now l.cds l.i l.k (search rules) ∙ l.invariant.5,
-    )
-
-pub shape_of-cdm : goal.shape_of-cdm
-shape_of-cdm c = c.loop-k.invariant.2
-
-pub shape_of-cds : goal.shape_of-cds
-shape_of-cds c = c.loop-k.invariant.3
+    let lines = c.args.lines.now in
+    (bit_laid lines l.cdm l.k 0 c.loop-k-test.true ∙ l.invariant.0, bit_laid lines l.cds l.k 2 c.loop-k-test.true ∙ l.invariant.1)
 
 pub returns : goal.returns
-unfolding cdm_of cds_of
 returns c =
     let l = c.loop-k in
-    let a = c.args in (
-      sym (digits_laid_none a.text.now l.cdm l.i l.k 0 (search rules)) ∙ l.invariant.4,
-      sym (digits_laid_none a.text.now l.cds l.i l.k 2 (search rules)) ∙ l.invariant.5,
-    )
+    let lines = c.args.lines.now in
+    record {
+      cdm = sym (no_bit lines l.cdm l.k 0 c.loop-k-test.false) ∙ l.invariant.0;
+      cds = sym (no_bit lines l.cds l.k 2 c.loop-k-test.false) ∙ l.invariant.1;
+    }

@@ -12,9 +12,9 @@ use Rattle.run.proofs.answer_row.Goals as goal
 pub loop-i-init : goal.loop-i-init
 loop-i-init c =
     let a = c.args in
-    let cleared = c.clear in
-    let zeros : cleared.new.cds ≡ replicate (length a.cdm.now) 0
-    = cleared.ensures ∙ ap (λ (n : ℕ). replicate n 0) c.requires.1 in (
+    let cleared = c.fill in
+    let zeros : cleared.new.self ≡ replicate (length a.cdm.now) 0
+    = cleared.ensures.after (λ y h. h) ∙ ap (λ (n : ℕ). replicate n 0) c.requires.1 in (
       search rules,
       refl,
       refl,

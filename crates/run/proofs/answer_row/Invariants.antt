@@ -2,7 +2,7 @@
 -- of zeros, and of the registers and the counts; their bytes are those from `at` on.
 use mathlib.Core.List.{map}
 use mathlib.Core.Path.{◌≡◌}
-use Prim.Native.Nat.{◌+◌, ◌-◌, ◌≤◌}
+use Prim.Native.Nat.{◌+◌, ◌≤◌}
 use lib.ListN.{length, drop}
 use Rattle.protocol.specs.Bits.{num, row_of}
 use Rattle.protocol.specs.Chain.{answers_from, memories_after}
@@ -21,6 +21,3 @@ invariant-loop-i l =
     ≡ registers_of (memories_after (memories_of l.banks l.initial.registers l.rights l.waits) (row_of l.cdm)))
     × (tallied l.banks l.i l.at l.registers l.rights l.waits l.counts l.cdm l.cds
     ≡ counts_of (memories_after (memories_of l.banks l.initial.registers l.rights l.waits) (row_of l.cdm)))
-
-abbrev pub decreases-loop-i : goal.decreases-loop-i
-decreases-loop-i l = length l.banks - l.i

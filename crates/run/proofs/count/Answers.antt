@@ -1,13 +1,13 @@
--- `run::count` meets its contract: each way is the definition at the branch's test. Assumes nothing.
-use Rattle.laws.proofs.Rules.{cases}
+-- `run::count` meets its contract: a number that is no code changes no count. Assumes nothing.
+use mathlib.Core.Path.{refl, sym}
+use lib.Seq.{set_out}
 use Rattle.protocol.specs.Memory.{one_more}
-use Rattle.run.specs.Parts.{counts_by}
 use Rattle.run.proofs.count.Goals as goal
 
-pub returns-then-ran-lt-CODES : goal.returns-then-ran-lt-CODES
-unfolding counts_by one_more
-returns-then-ran-lt-CODES c = search cases
+pub returns-then-code-counts : goal.returns-then-code-counts
+unfolding one_more
+returns-then-code-counts c = rw c.in-Some.is refl
 
-pub returns-else-ran-lt-CODES : goal.returns-else-ran-lt-CODES
-unfolding counts_by one_more
-returns-else-ran-lt-CODES c = search cases
+pub returns-else-code-counts : goal.returns-else-code-counts
+unfolding one_more
+returns-else-code-counts c = rw c.in-Some.is (sym (set_out _ _ _ c.if-code-counts.false))

@@ -12,20 +12,19 @@ pub returns-then-rights-bytes : goal.returns-then-rights-bytes
 unfolding size_refusals first
 returns-then-rights-bytes c = search cases
 
+pub returns-then-not-none_above : goal.returns-then-not-none_above
+unfolding size_refusals first
+returns-then-not-none_above c = rw (← c.none_above.ensures, c.if-not-none_above.true) (search cases)
+
 pub returns-then-waits-slaves : goal.returns-then-waits-slaves
 unfolding size_refusals first
-returns-then-waits-slaves c = rw (← c.none_above.ensures, c.if-none_above.true) (search cases)
+returns-then-waits-slaves c = rw (← c.none_above.ensures, c.if-not-none_above.false) (search cases)
 
 pub returns-then-counts-slaves : goal.returns-then-counts-slaves
 unfolding size_refusals first
-returns-then-counts-slaves c =
-    rw (← c.none_above.ensures, c.if-none_above.true) (search cases)
+returns-then-counts-slaves c = rw (← c.none_above.ensures, c.if-not-none_above.false) (search cases)
 
 pub returns-else-counts-slaves : goal.returns-else-counts-slaves
 unfolding size_refusals first
 returns-else-counts-slaves c =
-    rw (← c.none_above.ensures, c.if-none_above.true, c.wrong_row.ensures) (search cases)
-
-pub returns-else-none_above : goal.returns-else-none_above
-unfolding size_refusals first
-returns-else-none_above c = rw (← c.none_above.ensures, c.if-none_above.false) (search cases)
+    rw (← c.none_above.ensures, c.if-not-none_above.false, c.wrong_row.ensures) (search cases)

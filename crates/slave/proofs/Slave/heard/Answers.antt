@@ -1,14 +1,19 @@
 -- `slave::Slave::heard` meets its contract: at rest a 1 is S, and elsewhere the zeros are counted. Assumes nothing.
-use mathlib.Core.Path.{◌∙◌}
-use Rattle.slave.proofs.Silence.{rest_hears, other_hears}
+use Rattle.protocol.specs.Rest.{judge}
+use Rattle.slave.specs.Code.{heard_by}
+use Rattle.slave.proofs.Silence.{other_counts, other_rests}
 use Rattle.slave.proofs.Slave.heard.Goals as goal
 
-pub returns-in-Rest : goal.returns-in-Rest
-returns-in-Rest c =
-    let at_rest = c.in-Rest.is in
-    c.woken.ensures ∙ rw at_rest (rest_hears c.args.master)
+pub returns-in-Some : goal.returns-in-Some
+returns-in-Some c = other_counts _ _ _ _ c.in_default.not-Rest c.in-Some.ensures
 
-pub returns-in_default : goal.returns-in_default
-returns-in_default c =
-    let a = c.args in
-    c.waited.ensures ∙ other_hears a.self.phase a.self.zeros a.self.body a.master c.in_default.not-Rest
+pub returns-in-None : goal.returns-in-None
+returns-in-None c = other_rests _ _ c.args.self.now.phase _ c.in_default.not-Rest c.in-None.ensures
+
+pub returns-then-master : goal.returns-then-master
+unfolding heard_by judge
+returns-then-master c = rw (c.in-Rest.is, c.if-master.true, c.begun-self.ensures)
+
+pub returns-else-master : goal.returns-else-master
+unfolding heard_by judge
+returns-else-master c = rw (c.in-Rest.is, c.if-master.false)

@@ -1,16 +1,19 @@
--- `slave::header::called` meets its contract, a law for each result. Assumes nothing.
-use borrow.Author.Rules.{rules}
-use Rattle.slave.proofs.Heads.{called_wrong, called_command, called_here, called_elsewhere}
+-- `slave::header::called` meets its contract: a wrong check, an access, a command. Assumes nothing.
+use borrow.Author.Tests.{eq-eqb, ne_eqb}
+use Rattle.protocol.specs.Bits.{bit}
+use Rattle.protocol.specs.Header.{header}
+use Rattle.protocol.specs.Slave.{called}
 use Rattle.slave.proofs.header.called.Goals as goal
 
-pub returns-then-number-word : goal.returns-then-number-word
-returns-then-number-word c = search (called_here, rules)
+pub returns-then-not-header_fits : goal.returns-then-not-header_fits
+unfolding called header bit
+returns-then-not-header_fits c = rw (← c.header_fits.ensures, c.if-not-header_fits.true)
 
-pub returns-else-number-word : goal.returns-else-number-word
-returns-else-number-word c = search (called_elsewhere, rules)
+pub returns-then-value-eq1 : goal.returns-then-value-eq1
+unfolding header bit
+returns-then-value-eq1 c =
+    rw (← c.header_fits.ensures, c.if-not-header_fits.false, eq-eqb _ _ c.if-value-eq1.true) c.accessed.ensures
 
-pub returns-else-word-eq1 : goal.returns-else-word-eq1
-returns-else-word-eq1 c = search (called_command, rules)
-
-pub returns-else-header_fits : goal.returns-else-header_fits
-returns-else-header_fits c = search (called_wrong, rules)
+pub returns-else-value-eq1 : goal.returns-else-value-eq1
+unfolding called header bit
+returns-else-value-eq1 c = rw (← c.header_fits.ensures, c.if-not-header_fits.false, ne_eqb _ _ c.if-value-eq1.false)

@@ -1,19 +1,18 @@
 -- `slave::header::locked` meets its contract, a law for each result. Assumes nothing.
-use borrow.Author.Rules.{rules}
 use Rattle.slave.proofs.Heads.{lock_holds, lock_passes, lock_before, lock_takes, lock_past}
 use Rattle.slave.proofs.header.locked.Goals as goal
 
-pub returns-then-number-lt-NONE : goal.returns-then-number-lt-NONE
-returns-then-number-lt-NONE c = search (lock_holds, rules)
+pub returns-in-Some : goal.returns-in-Some
+returns-in-Some c = lock_holds _ _ c.in-Some.is
 
-pub returns-then-far : goal.returns-then-far
-returns-then-far c = search (lock_passes, rules)
+pub returns-in-None : goal.returns-in-None
+returns-in-None c = lock_passes _ c.in-None.is c.if-far.true
 
-pub returns-then-column-lt-LOCK_FIRST : goal.returns-then-column-lt-LOCK_FIRST
-returns-then-column-lt-LOCK_FIRST c = search (lock_before, rules)
+pub returns-in-None-2 : goal.returns-in-None-2
+returns-in-None-2 c = lock_before _ c.in-None-2.is c.if-far.false c.if-column-lt-LOCK_FIRST.true
 
-pub returns-then-column-lt-LOCK_LAST : goal.returns-then-column-lt-LOCK_LAST
-returns-then-column-lt-LOCK_LAST c = search (lock_takes, rules)
+pub returns-in-None-3 : goal.returns-in-None-3
+returns-in-None-3 c = lock_takes _ c.in-None-3.is c.if-far.false c.if-column-lt-LOCK_FIRST.false c.if-column-lt-LOCK_LAST.true
 
-pub returns-else-column-lt-LOCK_LAST : goal.returns-else-column-lt-LOCK_LAST
-returns-else-column-lt-LOCK_LAST c = search (lock_past, rules)
+pub returns-in-None-4 : goal.returns-in-None-4
+returns-in-None-4 c = lock_past _ c.in-None-4.is c.if-far.false c.if-column-lt-LOCK_LAST.false

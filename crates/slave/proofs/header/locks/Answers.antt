@@ -1,12 +1,10 @@
 -- `slave::header::locks` meets its contract, a law for each result. Assumes nothing.
-use mathlib.Core.Path.{refl}
-use borrow.Author.Rules.{rules}
 use Rattle.slave.proofs.Heads.{locks_on, locks_end}
-use Rattle.slave.proofs.Turns.{spoke}
+use Rattle.slave.proofs.Turns.{quiet}
 use Rattle.slave.proofs.header.locks.Goals as goal
 
-pub returns-then-body-lt-LOCK_LAST : goal.returns-then-body-lt-LOCK_LAST
-returns-then-body-lt-LOCK_LAST c = spoke c.said.ensures refl refl (λ k s. search (locks_on, rules))
+pub returns-then-header-lt-LOCK_LAST : goal.returns-then-header-lt-LOCK_LAST
+returns-then-header-lt-LOCK_LAST c = quiet c.said.ensures (λ k s. rw c.min.ensures (locks_on k _ _ _ _ _ c.pushed.ensures.0 c.locked-lock.ensures c.if-header-lt-LOCK_LAST.true))
 
-pub returns-else-body-lt-LOCK_LAST : goal.returns-else-body-lt-LOCK_LAST
-returns-else-body-lt-LOCK_LAST c = spoke c.said-else-body-lt-LOCK_LAST.ensures refl refl (λ k s. search (locks_end, rules))
+pub returns-else-header-lt-LOCK_LAST : goal.returns-else-header-lt-LOCK_LAST
+returns-else-header-lt-LOCK_LAST c = quiet c.said-else-header-lt-LOCK_LAST.ensures (λ k s. rw c.min.ensures (locks_end k _ _ _ _ _ c.pushed.ensures.0 c.locked-lock.ensures c.if-header-lt-LOCK_LAST.false))
