@@ -27,6 +27,7 @@ pub fn list_to_text(list: &[u8], out: &mut [u8]) -> Result<usize, Refusal>
     Ok(put_lines(out, p, list))
 }
 
+// Over lines and fields one function counts and one lays, here and below: a trait of both would be longer than they are.
 // The room that a list's text leaves, or none where it needs more. It is counted down, for no sum of lengths can wrap then.
 fn room_left(list: List, room: usize) -> Option<usize>
     ensures { SomeIff result (length (list_text (entries_left list.entry)) ≤ room) (room - length (list_text (entries_left list.entry))) }

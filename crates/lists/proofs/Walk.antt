@@ -1,9 +1,9 @@
 -- A list's bytes piece by piece: the first entry and what is behind it, and the chunks that the code tests. Assumes nothing.
 use mathlib.Core.Path.{◌≡◌, refl, sym, ap, ◌∙◌, fun_ext}
-use mathlib.Core.Bool.{Bool, true, false, and-false}
+use mathlib.Core.Bool.{Bool, true, false, and-false, false≢true, ◌&&◌}
 use mathlib.Core.List.{List, [], ◌∷◌, ◌++◌}
 use mathlib.Core.Option.{Option, none, some}
-use Prim.Native.Nat.{ℕ, zero, suc, ◌≤◌, ◌<◌}
+use Prim.Native.Nat.{ℕ, zero, suc, ◌+◌, ◌-◌, ◌≤◌, ◌<◌}
 use native.Mathlib.Omega.{arith}
 use lib.ListN.{length, length-append, take, drop, get_or}
 use lib.Seq.{take_at, drop_at}
@@ -13,14 +13,16 @@ use Rattle.std.specs.Slice.Iter.{chunks_exact_rest, chunks_exact_size, chunks_ex
 use Rattle.std.proofs.lemmas.Iterator.Splits.{YieldsList-from_shown_while}
 use Rattle.std.proofs.lemmas.Iterator.{YieldsList}
 use Rattle.protocol.specs.Entries.{Kind, number, kinds, numbered}
+use Rattle.protocol.specs.Banks.{Banked}
 use Rattle.protocol.specs.Pieces.{number_at, pieces}
 use Rattle.protocol.specs.Layout.{Field, kind, column, start, id, address, bank, value, current, entry_bytes, field_at, entry_by, entry_at, and_more, is_entry, all_entries, entries_in, is_list}
 use Rattle.laws.proofs.Every.{both}
 use Rattle.protocol.proofs.Pieces.{number_part, pieces_more, pieces_none}
 use Rattle.protocol.proofs.Codec.{numbered_own, entries_more, entries_none, list_more}
-use Rattle.kinds.specs.Kinds.{is_one, is_kind, kind_by}
+use Rattle.kinds.specs.Kinds.{is_one, is_kind, kind_of, kind_by}
 use Rattle.kinds.specs.declared.Kind as Code
-use Rattle.lists.specs.Fields.{fields_by}
+use Rattle.lists.specs.Fields.{fields_by, fields_at}
+use Rattle.lists.specs.declared.Fields.{Fields}
 use Rattle.lists.specs.Entries.{entry_of}
 
 -- A list that begins with a piece.
@@ -115,3 +117,34 @@ module _ (l e rest : List ℕ) (long : entry_bytes current ≤ length l) (front 
 -- Fewer bytes are no entries.
 pub entries_few : (l : List ℕ) → length l < entry_bytes current → entries_in current l ≡ []
 entries_few l h = entries_none current l 0 (omega arith)
+
+-- The entry of what stands in the fields, its kind by the number ..
+abbrev pub entry_by_number : Fields ℕ → Banked
+entry_by_number f =
+    record {
+      entry = record {
+        place = record { column = f.column; start = f.start };
+        event = record { kind = kind_of f.kind; id = f.id; address = f.address; value = f.value };
+      };
+      bank = f.bank;
+    }
+
+-- .. is of a list from a place on the first, and behind it are those from the next place on.
+module _ (list : List ℕ) (i : ℕ) (h : entry_bytes current ≤ length list - i) (e : is_list current (drop i list) ≡ true) where
+  parts_there : is_list current (drop i list) ≡ is_kind (fields_at list i).kind && is_list current (drop (i + entry_bytes current) list)
+  unfolding fields_at is_kind
+  parts_there = list_more current list i h ∙ rw (is_by (numbered (field_at current list i Field.kind) kinds) (field_at current list i))
+
+  kind_there : is_kind (fields_at list i).kind ≡ true
+  kind_there = (both (is_kind (fields_at list i).kind) (is_list current (drop (i + entry_bytes current) list)) (sym parts_there ∙ e)).0
+
+  pub entry_there : entries_in current (drop i list)
+      ≡ entry_by_number (fields_at list i) ∷ entries_in current (drop (i + entry_bytes current) list)
+  unfolding fields_at is_kind
+  entry_there = entries_more current list i h ∙ first (numbered (field_at current list i Field.kind) kinds) refl kind_there
+    where
+      first : (o : Option Kind) → numbered (field_at current list i Field.kind) kinds ≡ o → is_one o ≡ true
+          → and_more (entry_by o (field_at current list i)) (entries_in current (drop (i + entry_bytes current) list))
+          ≡ entry_by_number (fields_at list i) ∷ entries_in current (drop (i + entry_bytes current) list)
+      first none q k = absurd (false≢true k)
+      first (some k) q z = rw q

@@ -8,7 +8,7 @@ ghost use Rattle.lists.specs.Fields.{fields_at, fields_by};
 use job::{ADDRESS, BANK, COLUMN, ENTRY_BYTES, ID, Reason, START, VALUE};
 use kinds::Kind;
 
-// What stands in the fields of an entry: the kind as its byte is, or as one of the table.
+// What stands in the fields of an entry: the kind as its byte is, which `entry_at` gives of any bytes, or as one of the table.
 #[derive(Clone, Copy)]
 pub struct Fields<K = u8> {
     pub kind: K,

@@ -62,7 +62,7 @@ fn refused(why: Refusal, out: &mut [u8]) -> Result<usize, Refusal>
     whole(&line[..feed + 1], out)
 }
 
-// What is told beside a number, each value behind its TAB; a value has at most twenty digits.
+// What is told beside a number, each value behind its TAB, in a buffer from a place on, as print has it; a value has at most twenty digits.
 fn put_beside(out: &mut [u8], at: usize, beside: Detail) -> usize
     requires { at + 42 ≤ length out.old }
     ensures { Laid (fields (values (detail beside))) at out.old result out.new × (result ≤ at + 42) }
