@@ -36,6 +36,7 @@ fn is_help(argument: &[u8]) -> bool
 }
 
 // The number that an argument writes.
+#[tactic(auto, using(crate::proofs::Digits::digit_more, crate::proofs::Digits::no_digit, crate::proofs::Digits::no_more))]
 fn number(argument: &[u8]) -> Option<Asked>
     ensures { result ≡ asked_from 0 argument.now }
 {

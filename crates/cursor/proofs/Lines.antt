@@ -1,6 +1,6 @@
 -- A text of rows taken byte by byte and line by line, from a place on. Assumes nothing.
 use mathlib.Core.Path.{◌≡◌, refl, sym, ap, ◌∙◌}
-use mathlib.Core.Bool.{true, false, ◌&&◌, and-true}
+use mathlib.Core.Bool.{true, false, ◌&&◌, and-true, and-false}
 use mathlib.Core.List.{List, [], ◌∷◌, ◌++◌, map}
 use mathlib.Core.Option.{some}
 use Prim.Native.Nat.{ℕ, min, zero, suc, ◌+◌, ◌-◌, ◌*◌, ◌/◌, ◌%◌, ◌≤◌, ◌<◌}
@@ -24,6 +24,13 @@ unfolding begins
 starts_begins [] text = refl
 starts_begins (x ∷ line) [] = refl
 starts_begins (x ∷ line) (b ∷ text) = rw (nat_eq_equiv.symm x b, starts_begins line text)
+
+-- No text that is shorter begins with them.
+pub short_begins : (line text : List ℕ) → length text < length line → begins (map exactly line) text ≡ false
+unfolding begins
+short_begins [] text h = absurd (omega arith)
+short_begins (x ∷ line) [] h = refl
+short_begins (x ∷ line) (b ∷ text) h = rw (short_begins line text (omega arith), and-false)
 
 -- A text begins with a form where its first bytes do.
 begins_take : (form : List Form) (text : List ℕ) → begins form (take (length form) text) ≡ begins form text

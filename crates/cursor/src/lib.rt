@@ -179,7 +179,8 @@ fn past_lines(bytes: &[u8]) -> usize
     LINE * lines.len()
 }
 
-// Whether a text begins with these bytes.
+// Whether a text begins with these bytes. The second lemma is for a body that looks at the lengths first.
+#[tactic(auto, using(crate::proofs::Lines::starts_begins, crate::proofs::Lines::short_begins))]
 pub fn begins_with(text: &[u8], line: &[u8]) -> bool
     ensures { result ≡ begins (map exactly line.now) text.now }
 {

@@ -73,7 +73,8 @@ impl TryFrom<u8> for Kind {
     }
 }
 
-// Whether a number is a kind's.
+// Whether a number is a kind's. The second lemma is for a body that looks at 0 first.
+#[tactic(auto, using(crate::proofs::Numbers::decided, crate::proofs::Numbers::no_kind))]
 pub fn is_kind(number: u8) -> bool
     ensures { result ≡ is_kind number }
 {

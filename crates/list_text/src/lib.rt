@@ -2,7 +2,7 @@
 // returns the number of bytes, or refuses with 12 or 9 and leaves the lent buffer as it was.
 #![tactic(auto)]
 
-ghost use Rattle.std.specs.Prelude.{◌≡◌, ◌+◌, ◌-◌, ◌≤◌, map, length, SomeIff};
+ghost use Rattle.std.specs.Prelude.{◌≡◌, ◌+◌, ◌-◌, ◌≤◌, ◌<◌, None, map, length, get_or, SomeIff};
 ghost use Rattle.protocol.specs.Layout.{numbers};
 ghost use Rattle.protocol.specs.Text.{entry_line, entry_lines, list_text};
 ghost use Rattle.lists.specs.Entries.{entries_left, entry_of};
@@ -16,6 +16,9 @@ use names::Field;
 
 // "header `event` TAB `column` ..": the line of names.
 const HEADER: &[u8] = b"event\tcolumn\tstart\tid\taddress\tbank\tvalue\n";
+
+// How many fields stand behind an entry's kind.
+const FIELDS: usize = 6;
 
 // List to text: refusals 12, 9.
 pub fn list_to_text(list: &[u8], out: &mut [u8]) -> Result<usize, Refusal>
@@ -57,8 +60,8 @@ fn put_line(out: &mut [u8], at: usize, e: Fields<Kind>) -> usize
     ensures { Laid (entry_line (entry_of e)) at out.old result out.new }
 {
     let mut p = names::put_name(out, at, e.kind);
-    for number in numbers(e) {
-        p = put_field(out, p, number);
+    for i in 0..FIELDS {
+        p = put_field(out, p, number(e, i));
     }
     out[p] = b'\n';
     p + 1
@@ -69,33 +72,35 @@ fn line_length(e: Fields<Kind>) -> usize
     ensures { result ≡ length (entry_line (entry_of e)) }
 {
     let mut n = names::name_length(e.kind);
-    for number in numbers(e) {
-        n += field_length(number);
+    for i in 0..FIELDS {
+        n += field_length(number(e, i));
     }
     n + 1
 }
 
-// The fields behind an entry's kind, in their order: each one's number, if the kind names it.
-fn numbers(e: Fields<Kind>) -> [Option<u16>; 6]
-    ensures { result ≡ map (number_in (entry_of e)) numbers }
+// The fields behind an entry's kind, in their order: the number of the i-th, if the kind names it. One at a time: an array of all of them
+// is laid out before the first is asked for.
+fn number(e: Fields<Kind>, i: usize) -> Option<u16>
+    requires { i < length numbers }
+    ensures { result ≡ get_or (map (number_in (entry_of e)) numbers) i None }
 {
-    [
-        Some(e.column),
-        Some(e.start),
-        names::has_field(e.kind, Field::Id).then_some(u16::from(e.id)),
-        names::has_field(e.kind, Field::Address).then_some(u16::from(e.address)),
-        names::has_bank(e.kind, e.address).then_some(u16::from(e.bank)),
-        names::has_field(e.kind, Field::Value).then_some(u16::from(e.value)),
-    ]
+    match i {
+        0 => Some(e.column),
+        1 => Some(e.start),
+        2 => names::has_field(e.kind, Field::Id).then_some(u16::from(e.id)),
+        3 => names::has_field(e.kind, Field::Address).then_some(u16::from(e.address)),
+        4 => names::has_bank(e.kind, e.address).then_some(u16::from(e.bank)),
+        _ => names::has_field(e.kind, Field::Value).then_some(u16::from(e.value)),
+    }
 }
 
-// A TAB, and the field in decimal or `-`.
+// A TAB, and the field in decimal or `-`. The number by `as`: behind a call of `from` the compiler knows no bound of it.
 fn put_field(out: &mut [u8], at: usize, number: Option<u16>) -> usize
     requires { at + length (cell number) ≤ length out.old }
     ensures { Laid (cell number) at out.old result out.new }
 {
     match number {
-        Some(n) => print::put_number(out, at, u64::from(n)),
+        Some(n) => print::put_number(out, at, n as u64),
         None => print::put_bytes(out, at, b"\t-"),
     }
 }

@@ -14,7 +14,7 @@ use Rattle.std.proofs.lemmas.Iterator.Splits.{YieldsList-from_shown_while}
 use Rattle.std.proofs.lemmas.Iterator.{YieldsList}
 use Rattle.protocol.specs.Entries.{Kind, number, kinds, numbered}
 use Rattle.protocol.specs.Banks.{Banked}
-use Rattle.protocol.specs.Pieces.{number_at, pieces}
+use Rattle.protocol.specs.Pieces.{number_at, pieces, is_whole}
 use Rattle.protocol.specs.Layout.{Field, kind, column, start, id, address, bank, value, current, entry_bytes, field_at, entry_by, entry_at, and_more, is_entry, all_entries, entries_in, is_list}
 use Rattle.laws.proofs.Every.{both}
 use Rattle.protocol.proofs.Pieces.{number_part, pieces_more, pieces_none}
@@ -69,6 +69,12 @@ pub kinds_decide : (r : Bool) (ps : List (List ℕ))
     ((k : ℕ) × (k < length ps) × HoldsAt (λ p. is_kind (get_or p 0 0) ≡ false) ps k) → r ≡ all_entries current ps
 kinds_decide true ps h = sym (all_kinds ps h)
 kinds_decide false ps h = sym (other_kind ps h.0 h.1 h.2)
+
+-- Bytes of length 0 are a list, of no entries.
+pub empty_list : (list : List ℕ) → length list ≡ 0 → is_list current list ≡ true
+unfolding is_list is_whole all_entries
+empty_list [] h = ap (all_entries current) (pieces_none 9 [] (omega arith))
+empty_list (x ∷ list) h = absurd (omega arith)
 
 -- What the bytes from a place on have in their fields is what stands there.
 module _ (l : List ℕ) (i n : ℕ) (h : entry_bytes current ≤ n) where

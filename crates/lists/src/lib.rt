@@ -65,6 +65,8 @@ impl<'a> TryFrom<&'a [u8]> for List<'a> {
 
     ghost try_from_gives = { IsListOf };
 
+    // The lemma is for a body that looks first whether there are any bytes.
+    #[tactic(auto, using(crate::proofs::Walk::empty_list), unfolding(job::specs::Refusals::first))]
     fn try_from(bytes: &'a [u8]) -> Result<List<'a>, Reason> {
         if is_list(bytes) {
             Ok(List { bytes })

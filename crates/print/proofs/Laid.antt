@@ -1,12 +1,10 @@
 -- Bytes laid one part after the other are all of them laid at once. Assumes nothing.
 use mathlib.Core.Path.{◌≡◌, refl, sym, ap, ◌∙◌}
-use mathlib.Core.List.{List, [], ◌∷◌, ◌++◌, append_assoc}
-use Prim.Native.Nat.{ℕ, ◌+◌, ◌-◌, ◌≤◌}
+use mathlib.Core.List.{List, [], ◌∷◌, ◌++◌}
+use Prim.Native.Nat.{ℕ, ◌+◌}
 use native.Mathlib.Nat.{add_assoc}
-use native.Mathlib.Omega.{arith}
-use borrow.Rule.Slice.PartMut.{put_mid}
 use lib.ListN.{length, length-append, set}
-use lib.Seq.{sets, sets-eq, length-sets, drop-drop}
+use lib.Seq.{sets, length-sets}
 use Rattle.job.proofs.Laid.{sets_append}
 use Rattle.print.specs.Laid.{Laid}
 
@@ -33,9 +31,3 @@ one_byte l at v = record { behind = refl; laid = refl }
 -- The buffer keeps its length.
 pub laid_length : {vs l l' : List ℕ} {at r : ℕ} → Laid vs at l r l' → length l' ≡ length l
 laid_length {vs} {l} {l'} {at} {r} h = ap length h.laid ∙ length-sets l at vs
-
--- All of them in the place of as many.
-pub all_laid : (vs l : List ℕ) (at : ℕ) → at + length vs ≤ length l → put_mid at (at + length vs - at) l vs ≡ sets l at vs
-all_laid vs l at h =
-    let count : at + length vs - at ≡ length vs = omega arith in
-    rw (count, drop-drop, ← append_assoc) (sym (sets-eq vs l at h))

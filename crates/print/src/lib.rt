@@ -11,9 +11,10 @@ pub fn put_bytes(out: &mut [u8], at: usize, bytes: &[u8]) -> usize
     requires { at + length bytes.now ≤ length out.old }
     ensures { Laid bytes.now at out.old result out.new }
 {
-    let end = at + bytes.len();
-    out[at..end].copy_from_slice(bytes);
-    end
+    for (j, byte) in bytes.iter().enumerate() {
+        out[at + j] = *byte;
+    }
+    at + bytes.len()
 }
 
 // Text: "decimal". It calls itself, as `decimal` does: the digits before the last, and then the last.

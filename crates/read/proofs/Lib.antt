@@ -1,6 +1,5 @@
 mod Written
 pub mod Left
-mod Turns
 pub mod Kept
 pub mod Bytes
 pub mod Ends

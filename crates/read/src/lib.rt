@@ -118,15 +118,15 @@ impl Opened<'_> {
 }
 
 // A reading goes on over a part of the rows, from any state: it puts the entries while there is room, and counts on past it. The one
-// caller of step, which is inlined here.
+// caller of step, which is inlined here. A zip would ask in each column whether the answers end too; they are as many as the master's bits.
 fn scan_on(mut reading: Reading, cdm: &[u8], cds: &[u8], out: &mut [u8]) -> Reading
     requires { (length cdm.now ≡ length cds.now) × (reading.column + length cdm.now ≤ column_limit) × (reading.count + length cdm.now < 2 ^ 64) × ((place_of reading.reader reading.column).start ≤ reading.column) }
     ensures { reached_by result out.new ≡ reached (state_of reading.reader) (place_of reading.reader reading.column) reading.banks.known reading.count out.old (columns (row_of cdm.now) (row_of cds.now)) }
 {
-    for (master, answer) in cdm.iter().zip(cds) {
+    for (i, master) in cdm.iter().enumerate() {
         let stepped = reading
             .reader
-            .step(reading.column, *master == 1, *answer == 1);
+            .step(reading.column, *master == 1, cds[i] == 1);
         if let Some(event) = stepped.event {
             let place = Place {
                 column: reading.column,
@@ -171,13 +171,16 @@ impl Banks {
     }
 }
 
-// The entry after n others, where there is room for it.
+// The entry after n others, where there is room for it. Byte by byte: a copy of slices asks first whether they overlap, and where it may, C's
+// memmove is linked.
 fn keep(out: &mut [u8], n: usize, entry: &[u8; ENTRY_BYTES])
     ensures { out.new ≡ kept out.old n entry.now }
 {
     if n < out.len() / ENTRY_BYTES {
         let at = ENTRY_BYTES * n;
-        out[at..at + ENTRY_BYTES].copy_from_slice(entry);
+        for (i, byte) in entry.iter().enumerate() {
+            out[at + i] = *byte;
+        }
     }
 }
 

@@ -19,7 +19,8 @@ use Rattle.reader.specs.declared.Phase.TheVariants.{Deaf, Locks, Head, AskR, Ask
 use Rattle.reader.specs.declared.Form.{Form}
 use Rattle.reader.specs.declared.Frame.{Frame}
 use Rattle.reader.specs.declared.Form.TheVariants as Forms
-use Rattle.reader.specs.declared.Form.TheVariants.{Power, Rest}
+use Rattle.reader.specs.declared.Form.TheVariants.{Outside}
+use Rattle.reader.specs.declared.Waiting.TheVariants.{Power, Rest}
 use Rattle.reader.specs.declared.Reader.{Reader}
 use Rattle.reader.specs.declared.Event.{Event}
 use Rattle.reader.specs.declared.Turn.{Turn}
@@ -51,8 +52,8 @@ phase_of f = phase_by f.phase f
 
 -- A form with no zeros counted ..
 abbrev pub form_by : Form → Frame → Timed protocol.Phase
-form_by Power f = power 0
-form_by Rest f = rest
+form_by (Outside Power) f = power 0
+form_by (Outside Rest) f = rest
 form_by Forms.Frame f = frame 0 (phase_of f)
 
 -- .. and the state of a reader, with as many zeros in a row as it saw just now.

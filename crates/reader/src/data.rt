@@ -133,7 +133,7 @@ pub fn ask_p(frame: Frame, cds: bool) -> Turn
 {
     if cds {
         gives(frame.access(Kind::Closed, 0), frame.at(Phase::Deaf))
-    } else if frame.address < LAST_ADDRESS && u64::from(frame.nth) < BYTES {
+    } else if frame.address < LAST_ADDRESS && frame.nth < BYTES {
         go(Frame {
             phase: Phase::ByteS,
             address: frame.address + 1,

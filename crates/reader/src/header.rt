@@ -19,21 +19,19 @@ const PAST_EIGHT: u8 = IDS as u8 + 1;
 pub fn locks(frame: Frame, bits: Column) -> Turn
     ensures { turn_of result ≡ look (phase_by Phase.Locks frame) bits.cdm bits.cds }
 {
-    let column = frame.column.min(LOCK_LAST);
     let word = checkbits::pushed(frame.word, bits.cdm);
-    let seen = seen_at(column, frame.seen, bits.cds);
-    if column < LOCK_LAST {
+    if frame.column < LOCK_LAST {
         go(Frame {
             phase: Phase::Locks,
-            column: column + 1,
+            column: frame.column + 1,
             word,
-            seen,
+            seen: seen_at(frame.column, frame.seen, bits.cds),
             ..frame
         })
     } else {
         locked(Frame {
             word,
-            seen,
+            seen: seen_at(LOCK_LAST, frame.seen, bits.cds),
             ..frame
         })
     }
@@ -48,11 +46,9 @@ fn seen_at(column: u64, seen: Locks, cds: bool) -> Locks
         return seen;
     }
     match (seen, cds) {
-        (Locks::Ones, true) => Locks::Ones,
         (Locks::Ones, false) => Locks::Upto((column - LOCK_FIRST) as u8),
         (Locks::Upto(_), true) => Locks::Mixed,
-        (Locks::Upto(n), false) => Locks::Upto(n),
-        (Locks::Mixed, _) => Locks::Mixed,
+        _ => seen,
     }
 }
 

@@ -21,7 +21,7 @@ use kinds::Kind;
 use machine::REST;
 use made::go;
 
-// Columns: "A column pairs a CDM bit with the CDS bit that answers it".
+// Columns: "A column pairs a CDM bit with the CDS bit that answers it". It is made where a phase looks at both: made before, each column pays.
 #[derive(Clone, Copy)]
 struct Column {
     cdm: bool,
@@ -56,7 +56,8 @@ pub enum Phase {
 }
 
 // A phase, and beside it what it remembers; what a field holds in a phase that does not use it does not matter. An enum whose phases carry
-// their fields took a third longer a column, and read_all, which scans a stretch twice where the room is exact, longer than plain Rust.
+// their fields took a third longer a column, and read_all, which scans a stretch twice where the room is exact, longer than plain Rust. Small
+// fields that an event shows together lie apart: beside each other they are packed into one number, and unpacked again in each column.
 #[derive(Clone, Copy)]
 pub struct Frame {
     pub phase: Phase,
@@ -66,17 +67,17 @@ pub struct Frame {
     pub column: u64,
     // Of a byte's bits, how many come after this one.
     pub left: u64,
+    // The byte's place in an access, from 1.
+    pub nth: u64,
     pub seen: Locks,
     pub lock: u8,
-    // The register of an access; the byte's place in the access, from 1.
-    pub id: u8,
+    // The register of an access and, between its two numbers, W.
     pub address: u8,
-    pub nth: u8,
+    pub write: bool,
+    pub id: u8,
     // R and its answer: as one struct of two flags they took a third more time.
     pub r: bool,
     pub answered: bool,
-    // W.
-    pub write: bool,
     // A 1 came at the byte's S and was not confirmed.
     pub unconfirmed: bool,
     // Every bit of a written byte so far was echoed.
@@ -87,11 +88,18 @@ pub struct Frame {
     pub fitting: bool,
 }
 
+// Out of a frame.
+#[derive(Clone, Copy)]
+pub enum Waiting {
+    Rest,
+    Power,
+}
+
+// In a frame or out of one: two cases, so that one test tells a column of a frame.
 #[derive(Clone, Copy)]
 pub enum Form {
-    Power,
-    Rest,
     Frame,
+    Outside(Waiting),
 }
 
 // Inside the form, where it would stand alone in a frame, the frame made idle rows slower than the plain program's.
@@ -157,6 +165,19 @@ impl Frame {
         fitting: false,
     };
 
+    // No lock seen, no header bit; what else is remembered does not matter there.
+    fn begun(self) -> Frame
+        ensures { phase_of result ≡ begun }
+    {
+        Frame {
+            phase: Phase::Locks,
+            word: 0,
+            column: 1,
+            seen: Locks::Ones,
+            ..self
+        }
+    }
+
     // The same in another phase.
     fn at(self, phase: Phase) -> Frame
         ensures { phase_of result ≡ phase_by phase self }
@@ -196,7 +217,7 @@ impl Reader {
         ensures { state_of result ≡ power_on }
     {
         Reader {
-            form: Form::Power,
+            form: Form::Outside(Waiting::Power),
             frame: Frame::BEGUN,
             zeros: 0,
             start: 0,
@@ -212,7 +233,7 @@ impl Reader {
             ..self
         };
         if counted.zeros < REST {
-            counted.goes_on(column, Column { cdm: m, cds: x })
+            counted.goes_on(column, m, x)
         } else {
             counted.ended()
         }
@@ -228,7 +249,7 @@ impl Reader {
         };
         Stepped {
             next: Reader {
-                form: Form::Rest,
+                form: Form::Outside(Waiting::Rest),
                 ..self
             },
             event,
@@ -236,29 +257,12 @@ impl Reader {
     }
 
     // A column that is no fourteenth zero. Start: "The first 1 after rest is the start bit S".
-    fn goes_on(self, column: usize, bits: Column) -> Stepped
-        ensures { after column result ≡ moved (stepped (judged_at begun (state_of self) bits.cdm) bits.cdm bits.cds) (place_of self column) }
+    fn goes_on(self, column: usize, m: bool, x: bool) -> Stepped
+        ensures { after column result ≡ moved (stepped (judged_at begun (state_of self) m) m x) (place_of self column) }
     {
         match self.form {
-            Form::Power => Stepped {
-                next: self,
-                event: None,
-            },
-            Form::Rest if bits.cdm => {
-                let next = Reader {
-                    form: Form::Frame,
-                    frame: Frame::BEGUN,
-                    zeros: 0,
-                    start: column,
-                };
-                Stepped { next, event: None }
-            }
-            Form::Rest => Stepped {
-                next: self,
-                event: None,
-            },
             Form::Frame => {
-                let turn = look(self.frame, bits);
+                let turn = look(self.frame, m, x);
                 let next = Reader {
                     frame: turn.next,
                     ..self
@@ -268,6 +272,24 @@ impl Reader {
                     event: turn.says,
                 }
             }
+            // What a frame begins with is set at rest too, where it does not matter, so that the compiler has nothing to choose.
+            Form::Outside(Waiting::Rest) => {
+                let next = Reader {
+                    form: if m {
+                        Form::Frame
+                    } else {
+                        Form::Outside(Waiting::Rest)
+                    },
+                    frame: self.frame.begun(),
+                    zeros: 0,
+                    start: column,
+                };
+                Stepped { next, event: None }
+            }
+            Form::Outside(Waiting::Power) => Stepped {
+                next: self,
+                event: None,
+            },
         }
     }
 }
@@ -281,20 +303,20 @@ struct Turn {
 
 // One column of a frame: both go to the function of its phase, as protocol's `look` has them.
 #[tactic(auto, unfolding(protocol::specs::Reader::look))]
-fn look(frame: Frame, bits: Column) -> Turn
-    ensures { turn_of result ≡ look (phase_of frame) bits.cdm bits.cds }
+fn look(frame: Frame, m: bool, x: bool) -> Turn
+    ensures { turn_of result ≡ look (phase_of frame) m x }
 {
     match frame.phase {
         Phase::Deaf => go(frame.at(Phase::Deaf)),
-        Phase::Locks => locks(frame, bits),
-        Phase::Head => head(frame, bits.cdm),
-        Phase::AskR => ask_r(frame, bits),
-        Phase::AskW => ask_w(frame, bits),
-        Phase::ByteS => byte_s(frame, bits),
-        Phase::Reads => reads(frame, bits.cds),
-        Phase::Writes => writes(frame, bits),
-        Phase::AskP => ask_p(frame, bits.cds),
-        Phase::Acknowledge => acknowledge(frame, bits),
-        Phase::AskEX => ask_ex(frame, bits.cdm),
+        Phase::Locks => locks(frame, Column { cdm: m, cds: x }),
+        Phase::Head => head(frame, m),
+        Phase::AskR => ask_r(frame, Column { cdm: m, cds: x }),
+        Phase::AskW => ask_w(frame, Column { cdm: m, cds: x }),
+        Phase::ByteS => byte_s(frame, Column { cdm: m, cds: x }),
+        Phase::Reads => reads(frame, x),
+        Phase::Writes => writes(frame, Column { cdm: m, cds: x }),
+        Phase::AskP => ask_p(frame, x),
+        Phase::Acknowledge => acknowledge(frame, Column { cdm: m, cds: x }),
+        Phase::AskEX => ask_ex(frame, m),
     }
 }

@@ -1,9 +1,9 @@
 -- A text printed whole, or refused by 9; and the line of a refusal. Assumes nothing.
 use mathlib.Core.Path.{◌≡◌, refl, sym, ap, ◌∙◌}
 use mathlib.Core.List.{List, [], ◌∷◌, map, append-nil}
-use mathlib.Core.Option.{none}
+use mathlib.Core.Option.{none, some}
 use Rattle.std.specs.Prelude.{Ok, Err}
-use Prim.Native.Nat.{ℕ, ◌+◌, ◌≤◌, ◌<◌, ◌^◌}
+use Prim.Native.Nat.{ℕ, zero, suc, ◌+◌, ◌≤◌, ◌<◌, ◌^◌}
 use native.Mathlib.Nat.{zero-add}
 use native.Mathlib.Omega.{arith}
 use borrow.Author.Tests.{lt-ltb, le-ltb}
@@ -11,7 +11,8 @@ use lib.ListN.{length, take, set}
 use lib.Seq.{take_at}
 use Rattle.protocol.specs.Entries.{bytes}
 use Rattle.protocol.specs.Text.{tab, feed, digits_in, decimal}
-use Rattle.job.specs.Refusals.{Detail, alone, on_line, of_job, refusal, refusal_of, first, lent, lent_after}
+use Rattle.protocol.specs.Fault.{line_at, byte_at, fault_by, fault_number, fault_at}
+use Rattle.job.specs.Refusals.{Detail, alone, on_line, of_job, detail, refusal, refusal_of, first, lent, lent_after}
 use Rattle.job.specs.declared.Refusal as Returned
 use Rattle.job.proofs.Laid.{sets_first}
 use Rattle.job.proofs.Refusals.{ended_refused, was_made, result_fits}
@@ -19,7 +20,19 @@ use Rattle.print.specs.Laid.{Laid}
 use Rattle.print.proofs.Decimal.{decimal_short}
 use Rattle.print.proofs.Ends.{printed_made}
 use Rattle.print.proofs.Laid.{then, renamed, one_byte}
+use Rattle.rows_text.specs.RowsText.{bad_form}
 use Rattle.report.specs.Report.{fields, values, refused_text, Whole}
+
+-- Beside the number of a fault its place is told.
+told_by : (number stop : ℕ) (r : Returned.Refusal) → some (refusal_of r) ≡ bad_form (fault_by number stop)
+    → detail r.beside ≡ on_line (line_at stop) (byte_at stop)
+told_by zero stop r e = cc
+told_by (suc n) stop r e = cc
+
+pub fault_told : (stop end : ℕ) (r : Returned.Refusal) → some (refusal_of r) ≡ bad_form (fault_at stop end)
+    → detail r.beside ≡ on_line (line_at stop) (byte_at stop)
+unfolding fault_at
+fault_told stop end r e = told_by (fault_number stop end) stop r e
 
 -- The two ends of a text that is printed whole.
 module _ (text out : List ℕ) where

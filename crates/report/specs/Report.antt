@@ -50,7 +50,7 @@ report_refusals text opening =
 unfoldable pub report_text : (text : List ℕ) → (opening : ℕ) → List ℕ
 report_text text opening = printed (first (report_refusals text opening)) (cdm_of text) (cds_of text) opening
 
--- The same of two rows of one length that hold bits.
+-- The same of two rows of one length that hold bits, for the proofs: no contract cites it.
 unfoldable pub rows_report : (cdm cds : List ℕ) → (opening : ℕ) → List ℕ
 rows_report cdm cds opening = printed (first (when (ltb (length cdm) opening) 8 ∷ [])) cdm cds opening
 

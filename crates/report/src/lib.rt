@@ -30,13 +30,14 @@ pub fn report(text: &[u8], opening: usize, out: &mut [u8]) -> Result<usize, Refu
 }
 
 // The report on a text of more columns than a row may have, by the place where it stops and its end, or that of the piece which it
-// stops in: a fault anywhere goes before 5.
+// stops in: a fault anywhere goes before 5. The lemma is for a body that tells the line and the byte itself.
+#[tactic(auto, using(crate::proofs::Lines::fault_told), unfolding(crate::specs::Report::long_report))]
 pub fn long_report(stop: usize, end: usize, out: &mut [u8]) -> Result<usize, Refusal>
     ensures { Whole (long_report (fault_at stop end)) out.old result out.new }
 {
     match rows_text::formed(stop, end) {
         Ok(()) => refused(Reason::TooManyColumns.into(), out),
-        Err(why) => refused(why, out),
+        Err(fault) => refused(fault, out),
     }
 }
 

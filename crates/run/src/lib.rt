@@ -189,11 +189,13 @@ fn pass_slave(
         let master = *bit == 1;
         let far = cds[i] == 1;
         if slave.silent() {
-            slave.heard(master);
+            // First, since an idle column then takes fewer instructions.
             cds[i] = far as u8;
+            slave = slave.heard(master);
         } else {
             let place = found(banks, registers, slave.address());
-            let reply = slave.take(sees(master, far, rights, registers, place, wait));
+            let (next, reply) = slave.step(sees(master, far, rights, registers, place, wait));
+            slave = next;
             cds[i] = reply.sent as u8;
             keep(registers, place, reply.stored);
             count(counts, reply.ran);

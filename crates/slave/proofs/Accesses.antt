@@ -122,44 +122,44 @@ there_is address =
     (λ q. let l : before (address % address_count) + 1 < address_count = ltb-true _ _ q in rw (q, ne_eqb (address % address_count) 0 (omega arith)))
     (λ q. let l : address_count ≤ before (address % address_count) + 1 = ltb-false _ _ q in rw (q, eq-eqb (address % address_count) 0 (omega arith)))
 
-pub goes_on_is : (p : Passed) (right : ℕ) {good there allowed : Bool} → p.good ≡ good → not (eqb (p.next % address_count) 0) ≡ there
-    → bit (num p.write) right ≡ allowed → (good && (there && allowed && ltb p.nth byte_limit)) ≡ goes_on p right
+pub goes_on_is : (write : Bool) {own : Bool} (p : Passed) (right : ℕ) {good there allowed : Bool} → own ≡ good → not (eqb (p.next % address_count) 0) ≡ there
+    → bit (num write) right ≡ allowed → (good && (there && allowed && ltb p.nth byte_limit)) ≡ goes_on write own p right
 unfolding goes_on
-goes_on_is p right g t a = rw (← g, ← t, ← a, there_is p.next)
+goes_on_is write p right g t a = rw (← g, ← t, ← a, there_is p.next)
 
 -- P, as the code goes by it and as protocol does.
-on_near : (p : Passed) (right : ℕ) → goes_on p right ≡ true → before (p.next % address_count) + 1 ≡ p.next % address_count
+on_near : (write good : Bool) (p : Passed) (right : ℕ) → goes_on write good p right ≡ true → before (p.next % address_count) + 1 ≡ p.next % address_count
 unfolding goes_on
-on_near p right h =
+on_near write good p right h =
     let near : Bool = ltb (before (p.next % address_count) + 1) address_count in
-    let e : near ≡ true = (both near _ (both _ _ (both p.good _ h).1).0).0 in
+    let e : near ≡ true = (both near _ (both _ _ (both good _ h).1).0).0 in
     let l : before (p.next % address_count) + 1 < address_count = ltb-true _ _ e in
     omega arith
 
 -- Where it goes on, few bytes have passed.
-pub on_few : (p : Passed) (right : ℕ) → goes_on p right ≡ true → p.nth < byte_limit
+pub on_few : (write good : Bool) (p : Passed) (right : ℕ) → goes_on write good p right ≡ true → p.nth < byte_limit
 unfolding goes_on
-on_few p right h = ltb-true _ _ (both _ _ (both p.good _ h).1).1
+on_few write good p right h = ltb-true _ _ (both _ _ (both good _ h).1).1
 
-more_is : (k : Memory) (p : Passed) (seen : Seen) → SeenAt k (p.next % address_count) seen
-    → (p.good && protocol.more k p.write (before (p.next % address_count)) p.nth) ≡ goes_on p seen.right
+more_is : (k : Memory) (write good : Bool) (p : Passed) (seen : Seen) → SeenAt k (p.next % address_count) seen
+    → (good && protocol.more k write (before (p.next % address_count)) p.nth) ≡ goes_on write good p seen.right
 unfolding goes_on protocol.more
-more_is k p seen s =
+more_is k write good p seen s =
     tested (ltb (before (p.next % address_count) + 1) address_count)
     (λ e.
     let l : before (p.next % address_count) + 1 < address_count = ltb-true _ _ e in
     let here : before (p.next % address_count) + 1 ≡ p.next % address_count = omega arith in
-    rw (here, s.right_there p.write))
+    rw (here, s.right_there write))
     (λ e. rw e)
 
-module _ (k : Memory) (p : Passed) (m far : Bool) (seen : Seen) {f : Bool} where
-  pub asks_on : SeenAt k (p.next % address_count) seen → f ≡ goes_on p seen.right → f ≡ true
-      → protocol.speak k (protocol.ask_p p.write p.good (before (p.next % address_count)) p.nth) m far
-      ≡ protocol.turn (protocol.byte_s p.write (p.next % address_count) (p.nth + 1) 0) false k
+module _ (k : Memory) (write good : Bool) (p : Passed) (m far : Bool) (seen : Seen) {f : Bool} where
+  pub asks_on : SeenAt k (p.next % address_count) seen → f ≡ goes_on write good p seen.right → f ≡ true
+      → protocol.speak k (protocol.ask_p write good (before (p.next % address_count)) p.nth) m far
+      ≡ protocol.turn (protocol.byte_s write (p.next % address_count) (p.nth + 1) 0) false k
   unfolding protocol.speak
-  asks_on s e t = rw (more_is k p seen s, ← e, t, on_near p seen.right (sym e ∙ t))
+  asks_on s e t = rw (more_is k write good p seen s, ← e, t, on_near write good p seen.right (sym e ∙ t))
 
-  pub asks_end : SeenAt k (p.next % address_count) seen → f ≡ goes_on p seen.right → f ≡ false
-      → protocol.speak k (protocol.ask_p p.write p.good (before (p.next % address_count)) p.nth) m far ≡ protocol.turn protocol.deaf true k
+  pub asks_end : SeenAt k (p.next % address_count) seen → f ≡ goes_on write good p seen.right → f ≡ false
+      → protocol.speak k (protocol.ask_p write good (before (p.next % address_count)) p.nth) m far ≡ protocol.turn protocol.deaf true k
   unfolding protocol.speak
-  asks_end s e t = rw (more_is k p seen s, ← e, t)
+  asks_end s e t = rw (more_is k write good p seen s, ← e, t)

@@ -28,7 +28,7 @@ pub quiet : {phase next : Phase} {seen : Seen} {sent : Bool} {r : Phase × Reply
     → ((k : Memory) → SeenIn k (address_by phase) seen
     → protocol.speak k (phase_of phase) seen.master seen.far ≡ protocol.turn (phase_of next) sent k)
     → Meets phase seen r
-quiet e law = record { over = λ k s. rw e (law k s) }
+quiet e law = record { over = λ k s. rw e (law k s); unstored = λ none. rw e refl }
 
 -- The zeros counted, as protocol's timer has them.
 pub timer_is : (z : ℕ) (m : Bool) {z' : ℕ} → z' ≡ zeros_after z m → option_of (then_some (ltb z' rest_zeros) z') ≡ timer z m
@@ -44,14 +44,17 @@ unframed Frame z p h = absurd (h refl)
 module _ (s s' : Slave) (seen : Seen) {reply : Reply} where
   pub steps_unframed : s.form ≢ Frame → state_of s' ≡ heard_by (state_of s) seen.master → reply ≡ passed_on seen.far → Steps s seen (s', reply)
   steps_unframed h e f =
-      record { over = λ k there. rw (f, e) (passes_on k (state_of s) seen.master seen.far (unframed s.form s.zeros s.phase h)) }
+      record {
+        over = λ k there. rw (f, e) (passes_on k (state_of s) seen.master seen.far (unframed s.form s.zeros s.phase h));
+        unstored = λ none. rw f refl;
+      }
 
   module _ (framed : s.form ≡ Frame) where
     pub steps_on : {z : ℕ} {p : Phase} → state_of s' ≡ frame z (phase_of p) → some z ≡ timer s.zeros seen.master → Meets s.phase seen (p, reply)
         → Steps s seen (s', reply)
     unfolding protocol.step judge
-    steps_on to e meets = record { over = λ k there. rw (to, framed, ← e, meets.over k (rw framed at there)) refl }
+    steps_on to e meets = record { over = λ k there. rw (to, framed, ← e, meets.over k (rw framed at there)) refl; unstored = λ none. meets.unstored (rw framed at none) }
 
     pub steps_end : state_of s' ≡ rest → none ≡ timer s.zeros seen.master → reply ≡ passed_on seen.far → Steps s seen (s', reply)
     unfolding protocol.step judge
-    steps_end to e f = record { over = λ k there. rw (to, framed, ← e, f) refl }
+    steps_end to e f = record { over = λ k there. rw (to, framed, ← e, f) refl; unstored = λ none. rw f refl }

@@ -50,13 +50,13 @@ phase_of Deaf = protocol.deaf
 phase_of (Locks h) = protocol.locks (min h.column header_columns) h.word (number_of h.number)
 phase_of (Head h) = protocol.head (min h.column (header_columns + 1)) h.word (number_of h.number)
 phase_of (AskR address) = protocol.ask_r (address % address_count)
-phase_of (AskW address r) = protocol.ask_w (address % address_count) r
-phase_of (ByteS s) = protocol.byte_s s.write (s.address % address_count) s.nth s.unconfirmed
+phase_of (AskW r address) = protocol.ask_w (address % address_count) r
+phase_of (ByteS write s) = protocol.byte_s write (s.address % address_count) s.nth s.unconfirmed
 phase_of (Sends b) = protocol.sends (b.address % address_count) b.nth (b.left % counts) b.word
 phase_of (Takes b) = protocol.takes (b.address % address_count) b.nth (b.left % counts) b.word
-phase_of (AskP p) = protocol.ask_p p.write p.good (before (p.next % address_count)) p.nth
+phase_of (AskP write good p) = protocol.ask_p write good (before (p.next % address_count)) p.nth
 phase_of (Acknowledge c) = protocol.acknowledge c.column c.ids c.cmd (number_of c.number)
-phase_of (AskEX cmd concerned) = protocol.ask_ex cmd concerned
+phase_of (AskEX concerned cmd) = protocol.ask_ex cmd concerned
 
 -- The address of the register that a phase looks at, if it looks at one ..
 abbrev pub address_by : Phase → Maybe ℕ
@@ -64,13 +64,13 @@ address_by Deaf = None
 address_by (Locks h) = None
 address_by (Head h) = None
 address_by (AskR address) = None
-address_by (AskW address r) = Some (address % address_count)
-address_by (ByteS s) = Some (s.address % address_count)
+address_by (AskW r address) = Some (address % address_count)
+address_by (ByteS write s) = Some (s.address % address_count)
 address_by (Sends b) = None
 address_by (Takes b) = Some (b.address % address_count)
-address_by (AskP p) = Some (p.next % address_count)
+address_by (AskP write good p) = Some (p.next % address_count)
 address_by (Acknowledge c) = None
-address_by (AskEX cmd concerned) = None
+address_by (AskEX concerned cmd) = None
 
 -- .. and that a slave looks at.
 abbrev pub address_in : Form → Phase → Maybe ℕ
@@ -155,20 +155,23 @@ ran_by (Some code) k = counted k code
 abbrev pub left_by : Reply → (address : Maybe ℕ) → Memory → Memory
 left_by r address k = ran_by r.ran (stored_by r.stored address k)
 
--- What a phase's function promises, of a column that is not the fourteenth zero.
+-- What a phase's function promises, of a column that is not the fourteenth zero; where no register is looked at nothing is stored.
 pub record Meets (phase : Phase) (seen : Seen) (r : Phase × Reply) : Type 0 where
   pub over : (k : Memory) → SeenIn k (address_by phase) seen
       → protocol.speak k (phase_of phase) seen.master seen.far
       ≡ protocol.turn (phase_of r.0) r.1.sent (left_by r.1 (address_by phase) k)
+  pub unstored : address_by phase ≡ None → r.1.stored ≡ None
 
 -- The step of protocol's slave that a next state and a reply stand for.
 abbrev pub step_of : Memory → (address : Maybe ℕ) → Slave × Reply → protocol.Step
 step_of k address r = record { state = state_of r.0; says = protocol.reply r.1.sent (left_by r.1 address k) }
 
--- What step promises: the step of protocol's slave, over any memory that has what was seen at its address.
+-- What step promises: the step of protocol's slave, over any memory that has what was seen at its address; where it looks at no register
+-- nothing is stored.
 pub record Steps (s : Slave) (seen : Seen) (r : Slave × Reply) : Type 0 where
   pub over : (k : Memory) → SeenIn k (address_of s) seen
       → protocol.step (protocol.slave k (state_of s)) seen.master seen.far ≡ step_of k (address_of s) r
+  pub unstored : address_of s ≡ None → r.1.stored ≡ None
 
 -- What the code's lock stands for ..
 abbrev pub lock_of : Lock → protocol.Lock
@@ -183,11 +186,11 @@ abbrev pub confirmed_as : Asked → (word : ℕ) → Byte
 confirmed_as s word = record { address = s.address; nth = s.nth; left = top_bit; word = word }
 
 -- .. and one that has passed, with the address behind its own.
-abbrev pub passed_as : Byte → (write good : Bool) → Passed
-passed_as b write good = record { write = write; good = good; next = next_address b.address; nth = b.nth }
+abbrev pub passed_as : Byte → Passed
+passed_as b = record { next = next_address b.address; nth = b.nth }
 
 -- A P is followed by a further byte: the last was good, the address is not the last, the right allows it, and bytes are left.
-unfoldable pub goes_on : Passed → (right : ℕ) → Bool
-goes_on p right =
-    p.good
-    && (ltb (before (p.next % address_count) + 1) address_count && bit (num p.write) right && ltb p.nth byte_limit)
+unfoldable pub goes_on : (write good : Bool) → Passed → (right : ℕ) → Bool
+goes_on write good p right =
+    good
+    && (ltb (before (p.next % address_count) + 1) address_count && bit (num write) right && ltb p.nth byte_limit)

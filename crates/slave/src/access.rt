@@ -7,24 +7,23 @@ use crate::phase::{Asked, Phase, said};
 use crate::{Reply, Seen};
 
 // R and W: "The addressed slave repeats R."
-pub fn ask_r(address: u8, seen: Seen) -> (Phase, Reply)
+pub fn ask_r(address: u64, seen: Seen) -> (Phase, Reply)
     ensures { Meets (Phase.AskR address) seen result }
 {
-    said(Phase::AskW(address, seen.master), seen.master)
+    said(Phase::AskW(seen.master, address), seen.master)
 }
 
 // R and W: "It repeats W if R and W differ and its right allows the access at that address; otherwise it inverts W and goes deaf."
-pub fn ask_w(address: u8, r: bool, seen: Seen) -> (Phase, Reply)
-    ensures { Meets (Phase.AskW address r) seen result }
+pub fn ask_w(r: bool, address: u64, seen: Seen) -> (Phase, Reply)
+    ensures { Meets (Phase.AskW r address) seen result }
 {
     if r != seen.master && allowed(seen.right, seen.master) {
         let first = Asked {
-            write: seen.master,
             address,
             nth: 1,
             unconfirmed: 0,
         };
-        said(Phase::ByteS(first), seen.master)
+        said(Phase::ByteS(seen.master, first), seen.master)
     } else {
         said(Phase::Deaf, !seen.master)
     }

@@ -13,18 +13,18 @@ use machine::{ADDRESSES, BYTES, CHECKS, TOP_BIT};
 const COUNTS: u64 = 16;
 
 // Byte: "A 0 at S is answered 0 and ends the access; the slave goes deaf." Request 03: "with S = 1 it answers 0 that many times and then 1".
-pub fn byte_s(asked: Asked, seen: Seen) -> (Phase, Reply)
-    ensures { Meets (Phase.ByteS asked) seen result }
+pub fn byte_s(write: bool, asked: Asked, seen: Seen) -> (Phase, Reply)
+    ensures { Meets (Phase.ByteS write asked) seen result }
 {
     if !seen.master {
         said(Phase::Deaf, false)
-    } else if asked.unconfirmed < delay(asked.write, asked.nth, seen.wait) {
+    } else if asked.unconfirmed < delay(write, asked.nth, seen.wait) {
         let again = Asked {
             unconfirmed: asked.unconfirmed + 1,
             ..asked
         };
-        said(Phase::ByteS(again), false)
-    } else if asked.write {
+        said(Phase::ByteS(write, again), false)
+    } else if write {
         said(Phase::Takes(confirmed(asked, 0)), true)
     } else {
         said(Phase::Sends(confirmed(asked, checked(seen.byte))), true)
@@ -44,7 +44,7 @@ fn confirmed(asked: Asked, word: u64) -> Byte
 }
 
 // Request 03: "Every byte of a read waits; in a write the first byte does not, later ones do."
-fn delay(write: bool, nth: u8, wait: u8) -> u64
+fn delay(write: bool, nth: u64, wait: u8) -> u64
     ensures { (result ≡ delay_by wait write nth) × (result ≤ 255) }
 {
     if write && nth == 1 { 0 } else { wait as u64 }
@@ -57,7 +57,7 @@ pub fn sends(byte: Byte, seen: Seen) -> (Phase, Reply)
     let left = byte.left % COUNTS;
     let sent = (byte.word >> left) % 2 == 1;
     if left == 0 {
-        said(Phase::AskP(passed(byte, false, true)), sent)
+        said(Phase::AskP(false, true, passed(byte)), sent)
     } else {
         said(
             Phase::Sends(Byte {
@@ -89,46 +89,40 @@ pub fn takes(byte: Byte, seen: Seen) -> (Phase, Reply)
         stored: good.then_some((word / CHECKS % 256) as u8),
         ran: None,
     };
-    (Phase::AskP(passed(byte, true, good)), reply)
+    (Phase::AskP(true, good, passed(byte)), reply)
 }
 
 // A byte that has passed, with its next address.
-fn passed(byte: Byte, write: bool, good: bool) -> Passed
-    ensures { result ≡ passed_as byte write good }
+fn passed(byte: Byte) -> Passed
+    ensures { result ≡ passed_as byte }
 {
     Passed {
-        write,
-        good,
-        next: ((byte.address as u64 % ADDRESSES + 1) % ADDRESSES) as u8,
+        next: (byte.address % ADDRESSES + 1) % ADDRESSES,
         nth: byte.nth,
     }
 }
 
 // P: "The slave answers 0 if the next address exists, allows the access, and fewer than 64 bytes have passed; otherwise 1".
-pub fn ask_p(passed: Passed, seen: Seen) -> (Phase, Reply)
-    ensures { Meets (Phase.AskP passed) seen result }
+pub fn ask_p(write: bool, good: bool, passed: Passed, seen: Seen) -> (Phase, Reply)
+    ensures { Meets (Phase.AskP write good passed) seen result }
 {
-    if goes_on(passed, seen.right) {
+    if goes_on(write, good, passed, seen.right) {
         let next = Asked {
-            write: passed.write,
             address: passed.next,
             nth: passed.nth + 1,
             unconfirmed: 0,
         };
-        said(Phase::ByteS(next), false)
+        said(Phase::ByteS(write, next), false)
     } else {
         said(Phase::Deaf, true)
     }
 }
 
 // House rule: "after a written byte with a wrong check it also answers 1."
-fn goes_on(passed: Passed, right: u8) -> bool
-    ensures { result ≡ goes_on passed right }
+fn goes_on(write: bool, good: bool, passed: Passed, right: u8) -> bool
+    ensures { result ≡ goes_on write good passed right }
 {
-    passed.good
-        && passed.next as u64 % ADDRESSES != 0
-        && allowed(right, passed.write)
-        && (passed.nth as u64) < BYTES
+    good && passed.next % ADDRESSES != 0 && allowed(right, write) && passed.nth < BYTES
 }
 
 // A byte with its check bits behind it.

@@ -46,7 +46,7 @@ fn locked(column: u64, number: Option<Number>, far: bool) -> Lock
             sent: false,
         },
         None if column < LOCK_LAST => {
-            let value = (column - LOCK_FIRST) as u8;
+            let value = column - LOCK_FIRST;
             Lock {
                 number: Some(Number { value }),
                 sent: true,
@@ -87,7 +87,7 @@ fn called(word: u64, number: Option<Number>) -> Phase
         Phase::Acknowledge(Command {
             column: COMMAND_S,
             ids: value / COMMANDS % 256,
-            cmd: (value % COMMANDS) as u8,
+            cmd: value % COMMANDS,
             number,
         })
     }
@@ -98,9 +98,7 @@ fn accessed(value: u64, number: Option<Number>) -> Phase
     ensures { phase_of result ≡ called (access (value / 2 ^ 7 % 2 ^ 3) (value % 2 ^ 7)) (number_of number) }
 {
     match number {
-        Some(own) if own.value as u64 == value / ADDRESSES % IDS => Phase::AskR(
-            (value % ADDRESSES) as u8,
-        ),
+        Some(own) if own.value == value / ADDRESSES % IDS => Phase::AskR(value % ADDRESSES),
         _ => Phase::Deaf,
     }
 }

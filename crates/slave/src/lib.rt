@@ -15,14 +15,15 @@ ghost use Rattle.protocol.specs.Slave.{begun};
 ghost use Rattle.slave.specs.Code.{option_of, phase_of, passed_on, state_of, address_of, says_nothing, heard_by, Steps};
 
 use machine::REST;
-use phase::{Header, Phase};
+pub use number::Number;
+pub use phase::{Asked, Byte, Command, Header, Passed, Phase};
 
-// At rest, at power-on, or in a frame.
+// In a frame, at rest, or at power-on: the first case is asked first.
 #[derive(Clone, Copy)]
 pub enum Form {
+    Frame,
     Rest,
     Power,
-    Frame,
 }
 
 // The phase stands beside the form, and not in it, so that a slave stays in the processor's registers: idle rows then take a third less.
@@ -88,8 +89,8 @@ impl Slave {
 
     // One column of a slave with nothing to say. Rest: "they stay there while zeros last", so that no zero is counted. Start: "The first 1
     // after rest is the start bit S (answer 0). All numbers are dropped there".
-    pub fn heard(&mut self, master: bool)
-        ensures { state_of self.new ≡ heard_by (state_of self.old) master }
+    pub fn heard(mut self, master: bool) -> Slave
+        ensures { state_of result ≡ heard_by (state_of self) master }
     {
         match self.form {
             Form::Rest => {
@@ -104,19 +105,12 @@ impl Slave {
                 None => self.form = Form::Rest,
             },
         }
+        self
     }
 
     // One column, with what stands at its address: the state after it, and what the slave says.
     pub fn step(mut self, seen: Seen) -> (Slave, Reply)
         ensures { Steps self seen result }
-    {
-        let reply = self.take(seen);
-        (self, reply)
-    }
-
-    // The same in its place: a row that steps by value takes twice as long.
-    pub fn take(&mut self, seen: Seen) -> Reply
-        ensures { Steps self.old seen (self.new, result) }
     {
         match self.form {
             Form::Frame => match counted(self.zeros, seen.master) {
@@ -124,17 +118,14 @@ impl Slave {
                     let (next, reply) = self.phase.speak(seen);
                     self.zeros = zeros;
                     self.phase = next;
-                    reply
+                    (self, reply)
                 }
                 None => {
                     self.form = Form::Rest;
-                    passed_on(seen.far)
+                    (self, passed_on(seen.far))
                 }
             },
-            _ => {
-                self.heard(seen.master);
-                passed_on(seen.far)
-            }
+            _ => (self.heard(seen.master), passed_on(seen.far)),
         }
     }
 }

@@ -12,23 +12,25 @@ use crate::{Reply, Seen, passed_on};
 use machine::ADDRESSES;
 
 // Where a slave is in a frame, with the numbers of that place. After S the names are those of the column that it waits for.
+// In AskW the flag is R; in ByteS and AskP the first one tells a write, and in AskP the second one a byte with the right check; in AskEX it
+// tells whether the command concerns the slave. The flags come first, and every number has eight bytes: so a field of one size lies at one
+// place in all phases, and a slave that is handed on by value stays in the processor's registers.
 #[derive(Clone, Copy)]
 pub enum Phase {
     Deaf,
     Locks(Header),
     Head(Header),
-    AskR(u8),
-    AskW(u8, bool),
-    ByteS(Asked),
+    AskR(u64),
+    AskW(bool, u64),
+    ByteS(bool, Asked),
     Sends(Byte),
     Takes(Byte),
-    AskP(Passed),
+    AskP(bool, bool, Passed),
     Acknowledge(Command),
-    AskEX(u8, bool),
+    AskEX(bool, u64),
 }
 
-// A header so far: the number that the slave holds, the column after S, and the bits taken. Here and below the small fields come first:
-// so fields of one size lie at one place in all phases, and a slave stays in the processor's registers.
+// A header so far: the number that the slave holds, the column after S, and the bits taken.
 #[derive(Clone, Copy)]
 pub struct Header {
     pub number: Option<Number>,
@@ -39,37 +41,34 @@ pub struct Header {
 // A byte whose S is awaited: its address, its place in the access, from 1, and how often its S came and was not confirmed.
 #[derive(Clone, Copy)]
 pub struct Asked {
-    pub address: u8,
-    pub nth: u8,
-    pub write: bool,
+    pub address: u64,
+    pub nth: u64,
     pub unconfirmed: u64,
 }
 
 // A byte that is sent or taken: the bits left behind this one, and the bits to send or those taken.
 #[derive(Clone, Copy)]
 pub struct Byte {
-    pub address: u8,
-    pub nth: u8,
     pub left: u64,
+    pub address: u64,
+    pub nth: u64,
     pub word: u64,
 }
 
-// A byte that has passed: the next address, and whether its check was right.
+// A byte that has passed: the next address, and its place in the access.
 #[derive(Clone, Copy)]
 pub struct Passed {
-    pub next: u8,
-    pub nth: u8,
-    pub write: bool,
-    pub good: bool,
+    pub next: u64,
+    pub nth: u64,
 }
 
 // A command: the number that the slave holds, its code, whom it goes to, and the column after its S.
 #[derive(Clone, Copy)]
 pub struct Command {
     pub number: Option<Number>,
-    pub cmd: u8,
     pub ids: u64,
     pub column: u64,
+    pub cmd: u64,
 }
 
 impl Phase {
@@ -78,13 +77,13 @@ impl Phase {
         ensures { (result ≡ address_by self) × IfSome result (λ address. address < address_count) }
     {
         let address = match self {
-            Phase::AskW(address, _) => address,
-            Phase::ByteS(asked) => asked.address,
+            Phase::AskW(_, address) => address,
+            Phase::ByteS(_, asked) => asked.address,
             Phase::Takes(byte) => byte.address,
-            Phase::AskP(passed) => passed.next,
+            Phase::AskP(_, _, passed) => passed.next,
             _ => return None,
         };
-        Some((address as u64 % ADDRESSES) as usize)
+        Some((address % ADDRESSES) as usize)
     }
 
     // A column that is not the fourteenth zero.
@@ -96,13 +95,13 @@ impl Phase {
             Phase::Locks(header) => locks(header, seen),
             Phase::Head(header) => head(header, seen),
             Phase::AskR(address) => ask_r(address, seen),
-            Phase::AskW(address, r) => ask_w(address, r, seen),
-            Phase::ByteS(asked) => byte_s(asked, seen),
+            Phase::AskW(r, address) => ask_w(r, address, seen),
+            Phase::ByteS(write, asked) => byte_s(write, asked, seen),
             Phase::Sends(byte) => sends(byte, seen),
             Phase::Takes(byte) => takes(byte, seen),
-            Phase::AskP(passed) => ask_p(passed, seen),
+            Phase::AskP(write, good, passed) => ask_p(write, good, passed, seen),
             Phase::Acknowledge(command) => acknowledge(command, seen),
-            Phase::AskEX(cmd, concerned) => ask_ex(cmd, concerned, seen),
+            Phase::AskEX(concerned, cmd) => ask_ex(concerned, cmd, seen),
         }
     }
 }

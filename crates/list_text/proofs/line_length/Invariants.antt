@@ -7,8 +7,8 @@ use Rattle.protocol.specs.Text.{cells, entry_line}
 use Rattle.lists.specs.Entries.{entry_of}
 use Rattle.list_text.proofs.line_length.Given as goal
 
-abbrev pub invariant-loop-number : goal.invariant-loop-number
-invariant-loop-number l = record {
-  counted : l.n + length (cells (entry_of l.fn.e) (drop l.number-index numbers)) ≡ length (entry_line (entry_of l.fn.e));
-  small : l.n ≤ 8 + 6 * l.number-index;
+abbrev pub invariant-loop-i : goal.invariant-loop-i
+invariant-loop-i l = record {
+  counted : l.n + length (cells (entry_of l.fn.e) (drop l.i numbers)) ≡ length (entry_line (entry_of l.fn.e));
+  small : l.n ≤ 8 + 6 * l.i;
 }

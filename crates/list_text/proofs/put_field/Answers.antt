@@ -5,7 +5,7 @@ use Rattle.list_text.proofs.put_field.Goals as goal
 
 pub put_number-requires : goal.put_number-requires
 unfolding field
-put_number-requires c = rw c.from.ensures (let room = rw c.in-Some.is at c.requires in omega arith)
+put_number-requires c = let room = rw c.in-Some.is at c.requires in omega arith
 
 pub put_bytes-requires : goal.put_bytes-requires
 unfolding field
@@ -13,7 +13,7 @@ put_bytes-requires c = let room = rw c.in-None.is at c.requires in omega arith
 
 pub returns-in-Some : goal.returns-in-Some
 unfolding field
-returns-in-Some c = rw c.in-Some.is (rw c.from.ensures at c.put_number.ensures)
+returns-in-Some c = rw c.in-Some.is c.put_number.ensures
 
 pub returns-in-None : goal.returns-in-None
 unfolding field

@@ -6,6 +6,6 @@ use Rattle.lists.specs.Entries.{entry_of}
 use Rattle.list_text.proofs.Parts.{Left}
 use Rattle.list_text.proofs.put_line.Given as goal
 
-abbrev pub invariant-loop-number : goal.invariant-loop-number
-invariant-loop-number l =
-    Left (entry_line (entry_of l.fn.e)) l.at l.fn.out (cells (entry_of l.fn.e) (drop l.number-index numbers)) l.p l.out
+abbrev pub invariant-loop-i : goal.invariant-loop-i
+invariant-loop-i l =
+    Left (entry_line (entry_of l.fn.e)) l.at l.fn.out (cells (entry_of l.fn.e) (drop l.i numbers)) l.p l.out

@@ -1,27 +1,21 @@
 -- `read::keep` meets its contract: laid where there is room. Assumes nothing.
-use mathlib.Core.Path.{◌≡◌, refl, ◌∙◌}
-use Prim.Native.Nat.{◌+◌, ◌*◌, ◌-◌, ◌≤◌}
-use native.Mathlib.Nat.{le_refl}
+use mathlib.Core.Path.{◌≡◌, sym, ◌∙◌}
+use Prim.Native.Nat.{◌+◌, ◌*◌, ◌≤◌}
 use native.Mathlib.Omega.{arith}
 use borrow.Author.Tests.{lt-ltb, le-ltb}
-use lib.ListN.{length}
-use lib.Seq.{take_all}
-use Rattle.std.proofs.lemmas.List.Edits.{sets-eq}
-use Rattle.std.proofs.lemmas.Slice.{put_mid-paste}
+use lib.ListN.{length, drop, drop_of_length-le}
+use lib.Seq.{sets}
 use Rattle.read.specs.Parts.{kept}
 use Rattle.read.proofs.keep.Goals as goal
 
-pub returns-then-n-out : goal.returns-then-n-out
+pub returns-after-loop-i : goal.returns-after-loop-i
 unfolding kept
-returns-then-n-out c =
-    let a = c.args in
-    let entry = a.entry.now in
-    let at = 9 * a.n in
-    let width : length entry ≡ at + 9 - at = omega arith in
-    let fits : at + length entry ≤ length a.out.now = omega arith in
-    rw (lt-ltb _ _ c.if-n-out.true)
-    (put_mid-paste at (at + 9 - at) a.out.now c.copy_from_slice.new.self entry (length entry) c.copy_from_slice.ensures.after width refl
-    ∙ rw (take_all (length entry) entry (le_refl _), sets-eq entry a.out.now at fits))
+returns-after-loop-i c =
+    let l = c.loop-i in
+    let entry = c.args.entry.now in
+    let none : length entry ≤ l.i = omega (arith, c.loop-i-test.false) in
+    let all : sets l.out (9 * c.args.n + l.i) (drop l.i entry) ≡ l.out = rw (drop_of_length-le entry none) in
+    rw (lt-ltb _ _ c.if-n-out.true) (sym all ∙ l.invariant.1)
 
 pub returns-else-n-out : goal.returns-else-n-out
 unfolding kept

@@ -43,18 +43,18 @@ loop-i-preserved c =
           let step = passes_on (memory_by a.banks l.registers a.rights.now a.wait l.counts) (state_of l.slave) _ _ (sym c.silent.ensures ∙ w.if-silent.true) in
           record {
             few = rw w.counts-is (λ code. omega (arith, l.invariant.few code));
-            sent = rw (w.registers-is, w.counts-is, w.cds-is, w.slave-is, w.heard.ensures)
+            sent = rw (w.registers-is, w.counts-is, w.cds-is, w.slave-is, w.heard-slave.ensures)
                 (sym (sent_next _ _ a.cdm.now l.cds l.i small room step) ∙ l.invariant.sent);
-            left = rw (w.registers-is, w.counts-is, w.cds-is, w.slave-is, w.heard.ensures)
+            left = rw (w.registers-is, w.counts-is, w.cds-is, w.slave-is, w.heard-slave.ensures)
                 (sym (after_next _ _ a.cdm.now l.cds l.i small room step) ∙ l.invariant.left);
           }
       | else-silent w ↦
-          let turn = w.take-reply in
-          let reply = turn.result in
+          let turn = w.step in
+          let reply = turn.result.1 in
           let p : Option ℕ = option_of w.found-place.result in
           let here : p ≡ shown_in a.banks l.registers (address_of l.slave)
           = w.found-place.ensures ∙ ap (shown_in a.banks l.registers) w.address.ensures.0 in
-          let step = own_step a.banks l.registers a.rights.now a.wait l.counts l.slave p _ _ (turn.new.self, reply) here
+          let step = own_step a.banks l.registers a.rights.now a.wait l.counts l.slave p _ _ turn.result here
           (rw w.sees.ensures at turn.ensures) in
           let registers : c.if-silent.registers ≡ kept l.registers p reply.stored = w.registers-is ∙ w.keep.ensures in
           let counts : c.if-silent.counts ≡ counts_by reply.ran l.counts = w.counts-is ∙ w.count.ensures in

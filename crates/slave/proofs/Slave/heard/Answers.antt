@@ -8,7 +8,7 @@ pub returns-in-Some : goal.returns-in-Some
 returns-in-Some c = other_counts _ _ _ _ c.in_default.not-Rest c.in-Some.ensures
 
 pub returns-in-None : goal.returns-in-None
-returns-in-None c = other_rests _ _ c.args.self.now.phase _ c.in_default.not-Rest c.in-None.ensures
+returns-in-None c = other_rests _ _ c.args.self.phase _ c.in_default.not-Rest c.in-None.ensures
 
 pub returns-then-master : goal.returns-then-master
 unfolding heard_by judge

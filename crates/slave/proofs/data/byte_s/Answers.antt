@@ -11,8 +11,8 @@ returns-then-not-seen c = quiet c.said.ensures (λ k s. search (byte_ends, rules
 pub returns-then-asked-delay : goal.returns-then-asked-delay
 returns-then-asked-delay c = quiet c.said-then-asked-delay.ensures (λ k s. byte_waits k _ _ _ _ _ c.args.seen s (not-false _ c.if-not-seen.false) c.delay.ensures.0 c.if-asked-delay.true)
 
-pub returns-then-asked : goal.returns-then-asked
-returns-then-asked c = quiet c.said-then-asked.ensures (λ k s. rw c.confirmed.ensures (byte_takes k _ _ _ _ _ c.args.seen s (not-false _ c.if-not-seen.false) c.delay.ensures.0 c.if-asked-delay.false c.if-asked.true))
+pub returns-then-write : goal.returns-then-write
+returns-then-write c = quiet c.said-then-write.ensures (λ k s. rw c.confirmed.ensures (byte_takes k _ _ _ _ _ c.args.seen s (not-false _ c.if-not-seen.false) c.delay.ensures.0 c.if-asked-delay.false c.if-write.true))
 
-pub returns-else-asked : goal.returns-else-asked
-returns-else-asked c = quiet c.said-else-asked.ensures (λ k s. rw c.confirmed-else-asked.ensures (byte_sends k _ _ _ _ _ c.args.seen s (not-false _ c.if-not-seen.false) c.delay.ensures.0 c.if-asked-delay.false c.if-asked.false c.checked.ensures))
+pub returns-else-write : goal.returns-else-write
+returns-else-write c = quiet c.said-else-write.ensures (λ k s. rw c.confirmed-else-write.ensures (byte_sends k _ _ _ _ _ c.args.seen s (not-false _ c.if-not-seen.false) c.delay.ensures.0 c.if-asked-delay.false c.if-write.false c.checked.ensures))

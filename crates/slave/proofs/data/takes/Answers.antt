@@ -15,4 +15,5 @@ returns c =
       over = λ k s.
           rw (c.passed.ensures, c.then_some.ensures)
           (takes_last k b.address _ _ _ _ b.left c.if-left-gt0.false c.pushed-word.ensures.0 c.byte_fits-good.ensures);
+      unstored = λ none. absurd (cc);
     }
