@@ -18,7 +18,7 @@ use Rattle.protocol.specs.Memory.{Memory, in_bank, chosen, allows, holds, stored
 use Rattle.protocol.specs.Slave as protocol
 use Rattle.laws.proofs.Every.{tested}
 use Rattle.protocol.proofs.Dress.{step_to}
-use Rattle.slave.specs.Code.{option_of, state_of, address_of, stored_by, ran_by, SeenIn, Steps}
+use Rattle.slave.specs.Code.{option_of, state_of, address_of, stored_by, ran_by, SeenIn, Stepped}
 use Rattle.slave.specs.declared.Slave.{Slave}
 use Rattle.slave.specs.declared.Reply.{Reply}
 use Rattle.run.specs.Parts.{sent_by, after_by, memory_by, new_by, counts_by, kept, shown_in, seen_by, Passed}
@@ -54,13 +54,13 @@ module _ (banks : ℕ) (registers rights : List ℕ) (wait : ℕ) (counts : List
   ran_own l (Some code) = refl
 
   pub own_step : (s : Slave) (p : Option ℕ) (m b : Bool) (r : Slave × Reply) → p ≡ shown_in banks registers (address_of s)
-      → Steps s (seen_by m b rights registers p wait) r
+      → Stepped s (seen_by m b rights registers p wait) r
       → protocol.step (protocol.slave own (state_of s)) m b
       ≡ step_to (memory_by banks (kept registers p r.1.stored) rights wait (counts_by r.1.ran counts)) (state_of r.0) r.1.sent
-  own_step s p m b r here steps =
+  own_step s p m b r here stepped =
       let address : Maybe ℕ = address_of s in
       rw (here, ← ran_own (kept registers (shown_in banks registers address) r.1.stored) r.1.ran, ← stored_own address r.1.stored)
-      (steps.over own (rw here (there m b address)))
+      (stepped own (rw here (there m b address)))
 
 -- A column: what is sent goes over to what was sent.
 module _ (s : protocol.Slave) (t : protocol.Step) (cdm cds : List ℕ) (i : ℕ) (small : i < length cdm) (room : i < length cds)

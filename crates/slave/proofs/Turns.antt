@@ -16,7 +16,7 @@ use Rattle.laws.proofs.Every.{tested}
 use Rattle.machine.specs.Zeros.{zeros_after}
 use Rattle.machine.proofs.Zeros.{timer_on, timer_out}
 use Rattle.slave.proofs.Silence.{passes_on}
-use Rattle.slave.specs.Code.{option_of, phase_of, address_by, state_by, state_of, says_nothing, heard_by, passed_on, said, SeenIn, Meets, Steps}
+use Rattle.slave.specs.Code.{option_of, phase_of, address_by, state_by, state_of, says_nothing, heard_by, passed_on, said, SeenIn, Spoken, Meets, Stepped, Steps}
 use Rattle.slave.specs.declared.phase.Phase.{Phase}
 use Rattle.slave.specs.declared.Slave.{Slave}
 use Rattle.slave.specs.declared.Form.{Form}
@@ -41,6 +41,13 @@ unframed Power z p h = refl
 unframed Rest z p h = refl
 unframed Frame z p h = absurd (h refl)
 
+-- A column of a frame, whatever the reply stores where no register is looked at.
+module _ (s s' : Slave) (seen : Seen) (framed : s.form ≡ Frame) where
+  pub steps_on : {z : ℕ} (p : Phase) (reply : Reply) → state_of s' ≡ frame z (phase_of p) → some z ≡ timer s.zeros seen.master
+      → Spoken s.phase seen (p, reply) → Stepped s seen (s', reply)
+  unfolding protocol.step judge
+  steps_on p reply to e spoken k there = rw (to, framed, ← e, spoken k (rw framed at there)) refl
+
 module _ (s s' : Slave) (seen : Seen) {reply : Reply} where
   pub steps_unframed : s.form ≢ Frame → state_of s' ≡ heard_by (state_of s) seen.master → reply ≡ passed_on seen.far → Steps s seen (s', reply)
   steps_unframed h e f =
@@ -50,10 +57,9 @@ module _ (s s' : Slave) (seen : Seen) {reply : Reply} where
       }
 
   module _ (framed : s.form ≡ Frame) where
-    pub steps_on : {z : ℕ} {p : Phase} → state_of s' ≡ frame z (phase_of p) → some z ≡ timer s.zeros seen.master → Meets s.phase seen (p, reply)
+    pub steps_on_unstored : {z : ℕ} {p : Phase} → state_of s' ≡ frame z (phase_of p) → some z ≡ timer s.zeros seen.master → Meets s.phase seen (p, reply)
         → Steps s seen (s', reply)
-    unfolding protocol.step judge
-    steps_on to e meets = record { over = λ k there. rw (to, framed, ← e, meets.over k (rw framed at there)) refl; unstored = λ none. meets.unstored (rw framed at none) }
+    steps_on_unstored to e meets = record { over = steps_on s s' seen framed _ _ to e meets.over; unstored = λ none. meets.unstored (rw framed at none) }
 
     pub steps_end : state_of s' ≡ rest → none ≡ timer s.zeros seen.master → reply ≡ passed_on seen.far → Steps s seen (s', reply)
     unfolding protocol.step judge

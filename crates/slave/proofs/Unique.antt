@@ -6,7 +6,7 @@ use mathlib.Core.Bool.{Bool}
 use Rattle.protocol.specs.Rest.{power_on}
 use Rattle.protocol.specs.Memory.{Memory}
 use Rattle.laws.proofs.Unique.{one_result}
-use Rattle.slave.specs.Code.{state_of, address_of, heard_by, says_nothing, SeenIn, step_of, Steps}
+use Rattle.slave.specs.Code.{state_of, address_of, heard_by, says_nothing, SeenIn, step_of, Stepped}
 use Rattle.slave.specs.declared.Slave.{Slave}
 use Rattle.slave.specs.declared.Seen.{Seen}
 use Rattle.slave.specs.declared.Reply.{Reply}
@@ -21,6 +21,6 @@ heard_unique : (s : Slave) (m : Bool) (a b : Slave) → state_of a ≡ heard_by 
 heard_unique s m a b p q = one_result p q
 
 -- Over any memory that shows what was seen.
-step_unique : (s : Slave) (seen : Seen) (a b : Slave × Reply) → Steps s seen a → Steps s seen b → (k : Memory) → SeenIn k (address_of s) seen
+step_unique : (s : Slave) (seen : Seen) (a b : Slave × Reply) → Stepped s seen a → Stepped s seen b → (k : Memory) → SeenIn k (address_of s) seen
     → step_of k (address_of s) a ≡ step_of k (address_of s) b
-step_unique s seen a b p q k there = one_result (sym (p.over k there)) (sym (q.over k there))
+step_unique s seen a b p q k there = one_result (sym (p k there)) (sym (q k there))

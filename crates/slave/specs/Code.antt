@@ -155,22 +155,30 @@ ran_by (Some code) k = counted k code
 abbrev pub left_by : Reply → (address : Maybe ℕ) → Memory → Memory
 left_by r address k = ran_by r.ran (stored_by r.stored address k)
 
--- What a phase's function promises, of a column that is not the fourteenth zero; where no register is looked at nothing is stored.
+-- A column that is not the fourteenth zero, over any memory that has what was seen at the phase's address ..
+abbrev pub Spoken : Phase → Seen → Phase × Reply → Type 0
+Spoken phase seen r =
+    (k : Memory) → SeenIn k (address_by phase) seen
+    → protocol.speak k (phase_of phase) seen.master seen.far
+    ≡ protocol.turn (phase_of r.0) r.1.sent (left_by r.1 (address_by phase) k)
+
+-- .. is what a phase's function promises; and where no register is looked at nothing is stored.
 pub record Meets (phase : Phase) (seen : Seen) (r : Phase × Reply) : Type 0 where
-  pub over : (k : Memory) → SeenIn k (address_by phase) seen
-      → protocol.speak k (phase_of phase) seen.master seen.far
-      ≡ protocol.turn (phase_of r.0) r.1.sent (left_by r.1 (address_by phase) k)
+  pub over : Spoken phase seen r
   pub unstored : address_by phase ≡ None → r.1.stored ≡ None
 
 -- The step of protocol's slave that a next state and a reply stand for.
 abbrev pub step_of : Memory → (address : Maybe ℕ) → Slave × Reply → protocol.Step
 step_of k address r = record { state = state_of r.0; says = protocol.reply r.1.sent (left_by r.1 address k) }
 
--- What step promises: the step of protocol's slave, over any memory that has what was seen at its address; where it looks at no register
--- nothing is stored.
+-- The step of protocol's slave, over any memory that has what was seen at the slave's address ..
+abbrev pub Stepped : Slave → Seen → Slave × Reply → Type 0
+Stepped s seen r =
+    (k : Memory) → SeenIn k (address_of s) seen → protocol.step (protocol.slave k (state_of s)) seen.master seen.far ≡ step_of k (address_of s) r
+
+-- .. is what step promises; and where it looks at no register nothing is stored.
 pub record Steps (s : Slave) (seen : Seen) (r : Slave × Reply) : Type 0 where
-  pub over : (k : Memory) → SeenIn k (address_of s) seen
-      → protocol.step (protocol.slave k (state_of s)) seen.master seen.far ≡ step_of k (address_of s) r
+  pub over : Stepped s seen r
   pub unstored : address_of s ≡ None → r.1.stored ≡ None
 
 -- What the code's lock stands for ..

@@ -55,7 +55,7 @@ loop-i-preserved c =
           let here : p ≡ shown_in a.banks l.registers (address_of l.slave)
           = w.found-place.ensures ∙ ap (shown_in a.banks l.registers) w.address.ensures.0 in
           let step = own_step a.banks l.registers a.rights.now a.wait l.counts l.slave p _ _ turn.result here
-          (rw w.sees.ensures at turn.ensures) in
+          (rw w.sees.ensures at turn.ensures).over in
           let registers : c.if-silent.registers ≡ kept l.registers p reply.stored = w.registers-is ∙ w.keep.ensures in
           let counts : c.if-silent.counts ≡ counts_by reply.ran l.counts = w.counts-is ∙ w.count.ensures in
           record {
